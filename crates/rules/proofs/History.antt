@@ -1,0 +1,189 @@
+-- Records held are those mapped less those taken away.
+use Prim.Native.Nat.{ℕ, zero, suc, _+_, _<_}
+use mathlib.Core.Path.{_≡_, refl, sym, ap, _∙_}
+use mathlib.Core.Bool.{Bool, true, false, cond, not, _&&_}
+use mathlib.Core.List.{List, [], _∷_, _++_}
+use mathlib.Core.Option.{Option, some, none}
+use native.Mathlib.Omega.{arith}
+use lib.Dec.{eqb}
+use lib.ListN.{length, getD}
+use borrow.Author.Tests.{eqb-true, eq-eqb, ne-eqb, not-true}
+use Rattle.laws.specs.Lists.{all?, keep, firstFailing}
+use Rattle.laws.specs.Runs.{after}
+use Rattle.laws.proofs.Tests.{failing-among}
+use Rattle.laws.proofs.Filters.{keep-same, split}
+use Rattle.rules.specs.declared.Guest.{Guest}
+use Rattle.rules.specs.declared.Endpoint.{Endpoint}
+use Rattle.rules.specs.declared.Domain.{Domain}
+use Rattle.rules.specs.declared.Mapping.{Mapping}
+use Rattle.rules.specs.declared.Answer.{Answer}
+use Rattle.rules.specs.declared.Answer.the-variants.{Unattached, Unmapped}
+use Rattle.rules.specs.Answers.{usedLength}
+use Rattle.rules.specs.Configuration.{Config}
+use Rattle.rules.specs.Table.{keyOf, insert}
+use Rattle.rules.specs.State.{Attachment, World, Device, read, write}
+use Rattle.rules.specs.Guests.{Own, Part, own, part, withRecords}
+use Rattle.rules.specs.Requests.{OK, ATTACH, DETACH, MAP, requestRefusals, typeOf, domainField, endpointField, attachReserved, virtStart, virtEnd, unmapReserved}
+use Rattle.rules.specs.Handlers.{settle, isIn, exists, attachmentOf, attachedAs, ofKey, without, leave, enter, moveFrom, attached, attachSteps, attach, detachSteps, detach, formSteps, recordSteps, mapSteps, map, inside, unmapSteps, unmap, askedFor, handle}
+use Rattle.rules.specs.Access.{lookup, blocked, translated, decided, access, reset, faultOf}
+use Rattle.rules.specs.Sound.{passes}
+use Rattle.rules.specs.Device.{Call, request, access-by, reset-of, fetch-for, Reply, requested, rule, owns, step}
+use Rattle.rules.specs.History.{goneWithDomain, goneByMove, goneByRequest, gone, taken, mapped, takenOver, mappedOver}
+use Rattle.rules.proofs.Records.{length-insert}
+use Rattle.rules.proofs.Worlds.{Whole, stepWorld, step-keeps, step-other, step-mine}
+use Rattle.rules.proofs.Writing.{read-write}
+use Rattle.rules.proofs.Steps.{step-write}
+
+all-kept : (l : List Mapping) → keep (λ r. true) l ≡ l
+all-kept [] = refl
+all-kept (r ∷ l) = ap (λ m. r ∷ m) (all-kept l)
+
+none-kept : (l : List Mapping) → keep (λ r. false) l ≡ []
+none-kept [] = refl
+none-kept (r ∷ l) = none-kept l
+
+-- what a request leaves, by whether a step fails
+settled : (P : Bool → Part → Type 0) (v : Option ℕ) (p q : Part) → P true q → P false p → P (passes v) (settle v p q .1)
+unfolding settle
+settled P none p q a b = a
+settled P (some s) p q a b = b
+
+-- RECORDS LEFT, BY THE REQUEST'S TYPE
+
+module _ (o : Own) (p : Part) where
+  attach-left : (e : Endpoint) (d : Domain) (z : ℕ) → attach o p d e z .1 .records ≡ keep (λ r. not (passes (firstFailing (attachSteps o d e z)) && goneByMove o p e d (attachmentOf e (o .endpoints) (p .attachments)) r)) (p .records)
+  unfolding attach
+  attach-left e d z =
+      settled (λ b q. q .records ≡ keep (λ r. not (b && goneByMove o p e d a r)) (p .records)) (firstFailing (attachSteps o d e z)) p (attached o e d p)
+      (unfold attached in go a) (sym (all-kept (p .records)))
+    where
+      a : Attachment
+      a = attachmentOf e (o .endpoints) (p .attachments)
+
+      moved : (was : Domain) (b : Bool) → isIn d (some was) ≡ b → cond b p (enter o e d (leave o e was p)) .records ≡ keep (λ r. not (not b && goneWithDomain o p e was r)) (p .records)
+      moved was true i = sym (all-kept (p .records))
+      moved was false i = unfold enter leave without in refl
+
+      go : (b : Attachment) → cond (isIn d b) p (enter o e d (moveFrom o e b p)) .records ≡ keep (λ r. not (goneByMove o p e d b r)) (p .records)
+      go none = unfold isIn moveFrom enter in sym (all-kept (p .records))
+      go (some was) = unfold moveFrom in moved was (isIn d (some was)) refl
+
+  detach-left : (e : Endpoint) (d : Domain) (z : ℕ) → detach o p d e z .1 .records ≡ keep (λ r. not (passes (firstFailing (detachSteps o p d e z)) && goneWithDomain o p e d r)) (p .records)
+  unfolding detach
+  detach-left e d z =
+      settled (λ b q. q .records ≡ keep (λ r. not (b && goneWithDomain o p e d r)) (p .records)) (firstFailing (detachSteps o p d e z)) p (leave o e d p)
+      (unfold leave without in refl) (sym (all-kept (p .records)))
+
+  unmap-left : (d : Domain) (a b z : ℕ) → unmap o p d a b z .1 .records ≡ keep (λ r. not (passes (firstFailing (unmapSteps o p d a b z)) && inside (keyOf (o .guest) d) a b r)) (p .records)
+  unfolding unmap
+  unmap-left d a b z =
+      settled (λ t q. q .records ≡ keep (λ r. not (t && inside (keyOf (o .guest) d) a b r)) (p .records)) (firstFailing (unmapSteps o p d a b z)) p _
+      (unfold without in refl) (sym (all-kept (p .records)))
+
+  handle-left : (q : List ℕ) → eqb (typeOf q) MAP ≡ false → handle o p q .1 .records ≡ keep (λ r. not (goneByRequest o p q r)) (p .records)
+  unfolding handle goneByRequest
+  handle-left q m = rw m (go (eqb (typeOf q) ATTACH) (eqb (typeOf q) DETACH))
+    where
+      d : Domain
+      d = domainField q
+
+      e : Endpoint
+      e = endpointField q
+
+      go : (t u : Bool)
+          → cond t (attach o p d e (attachReserved q)) (cond u (detach o p d e (attachReserved q)) (unmap o p d (virtStart q) (virtEnd q) (unmapReserved q))) .1 .records
+          ≡ keep (λ r. not (cond t (passes (firstFailing (attachSteps o d e (attachReserved q))) && goneByMove o p e d (attachmentOf e (o .endpoints) (p .attachments)) r)
+          (cond u (passes (firstFailing (detachSteps o p d e (attachReserved q))) && goneWithDomain o p e d r)
+          (passes (firstFailing (unmapSteps o p d (virtStart q) (virtEnd q) (unmapReserved q))) && inside (keyOf (o .guest) d) (virtStart q) (virtEnd q) r)))) (p .records)
+      go true u = attach-left e d (attachReserved q)
+      go false true = detach-left e d (attachReserved q)
+      go false false = unmap-left d (virtStart q) (virtEnd q) (unmapReserved q)
+
+  access-left : (e : Endpoint) (x k : ℕ) → access o p e x k .1 .records ≡ p .records
+  unfolding access
+  access-left e x k = go (attachmentOf e (o .endpoints) (p .attachments))
+    where
+      hit : (m : Option Mapping) → translated e x k p m .1 .records ≡ p .records
+      hit none = unfold translated blocked in refl
+      hit (some r) = unfold translated in refl
+
+      go : (a : Attachment) → decided o p e x k a .1 .records ≡ p .records
+      go none = unfold decided blocked in refl
+      go (some d) = unfold decided in hit (lookup (keyOf (o .guest) d) x k (p .records))
+
+  -- ONE CALL
+
+  plain : (x : Call) → rule o p x .1 .records ≡ keep (λ r. not (gone o p x r)) (p .records) → mapped x (rule o p x .0) ≡ false → length (rule o p x .1 .records) + taken o p x ≡ length (p .records) + cond (mapped x (rule o p x .0)) 1 0
+  plain x left off = unfold taken in (rw (left, off) (omega (arith, split (gone o p x) (p .records))))
+
+  no-map-status : (d : Domain) (r : Mapping) (s : ℕ) → firstFailing (mapSteps o p d r) ≡ some s → eqb s 0 ≡ false
+  no-map-status d r s e = not-true (eqb s 0) (failing-among (λ n. not (eqb n 0)) (mapSteps o p d r) s e (unfold formSteps in refl))
+
+  map-balance : (d : Domain) (r : Mapping) → length (map o p d r .1 .records) ≡ length (p .records) + cond (eqb (map o p d r .0) OK) 1 0
+  unfolding map
+  map-balance d r = go (firstFailing (mapSteps o p d r)) refl
+    where
+      go : (v : Option ℕ) → firstFailing (mapSteps o p d r) ≡ v → length (settle v p (withRecords (insert r (p .records)) p) .1 .records) ≡ length (p .records) + cond (eqb (settle v p (withRecords (insert r (p .records)) p) .0) OK) 1 0
+      go none e = unfold settle in omega (arith, length-insert r (p .records))
+      go (some s) e = unfold settle in (rw (no-map-status d r s e) (omega arith))
+
+  -- a MAP takes no record away
+  map-stays : (g : Guest) (q w : List ℕ) → firstFailing (requestRefusals q (length w)) ≡ none → typeOf q ≡ MAP → (r : Mapping) → gone o p (request g q w) r ≡ false
+  unfolding gone goneByRequest
+  map-stays g q w e three r = rw (e, three)
+
+  mapped-balance : (g : Guest) (q w : List ℕ) → firstFailing (requestRefusals q (length w)) ≡ none → typeOf q ≡ MAP → keep (gone o p (request g q w)) (p .records) ≡ []
+      → length (rule o p (request g q w) .1 .records) + taken o p (request g q w) ≡ length (p .records) + cond (mapped (request g q w) (rule o p (request g q w) .0)) 1 0
+  unfolding rule taken mapped requested handle
+  mapped-balance g q w e three k = rw (k, e, three) (omega (arith, map-balance (domainField q) (askedFor o q)))
+
+  worked-balance : (g : Guest) (q w : List ℕ) → firstFailing (requestRefusals q (length w)) ≡ none → (t : Bool) → eqb (typeOf q) MAP ≡ t
+      → length (rule o p (request g q w) .1 .records) + taken o p (request g q w) ≡ length (p .records) + cond (mapped (request g q w) (rule o p (request g q w) .0)) 1 0
+  worked-balance g q w e true t =
+      let three = eqb-true (typeOf q) MAP t in
+      mapped-balance g q w e three (keep-same (gone o p (request g q w)) (λ r. false) (p .records) (map-stays g q w e three) ∙ none-kept (p .records))
+  worked-balance g q w e false t =
+      plain (request g q w) (unfold rule gone requested in (rw e (handle-left q t)))
+      (unfold mapped in (rw t))
+
+  refused-balance : (g : Guest) (q w : List ℕ) (a : Answer) → firstFailing (requestRefusals q (length w)) ≡ some a
+      → length (rule o p (request g q w) .1 .records) + taken o p (request g q w) ≡ length (p .records) + cond (mapped (request g q w) (rule o p (request g q w) .0)) 1 0
+  refused-balance g q w a e =
+      plain (request g q w) (unfold rule gone requested in (rw e (sym (all-kept (p .records)))))
+      (unfold rule mapped requested in (rw (e, eqb-true (usedLength a) 0 (failing-among (λ b. eqb (usedLength b) 0) (requestRefusals q (length w)) a e refl)) (both-false (eqb (typeOf q) MAP))))
+    where
+      both-false : (t : Bool) → (t && false) ≡ false
+      both-false true = refl
+      both-false false = refl
+
+  request-balance : (g : Guest) (q w : List ℕ) (m : Option Answer) → firstFailing (requestRefusals q (length w)) ≡ m
+      → length (rule o p (request g q w) .1 .records) + taken o p (request g q w) ≡ length (p .records) + cond (mapped (request g q w) (rule o p (request g q w) .0)) 1 0
+  request-balance g q w none e = worked-balance g q w e (eqb (typeOf q) MAP) refl
+  request-balance g q w (some a) e = refused-balance g q w a e
+
+  -- records after, with those taken away, are records before, with the one mapped
+  pub balance : (x : Call) → length (rule o p x .1 .records) + taken o p x ≡ length (p .records) + cond (mapped x (rule o p x .0)) 1 0
+  balance (request g q w) = request-balance g q w (firstFailing (requestRefusals q (length w))) refl
+  balance (access-by e x k) = plain (access-by e x k) (unfold rule gone in (access-left e x k ∙ sym (all-kept (p .records)))) (unfold mapped in refl)
+  balance (reset-of g) = plain (reset-of g) (unfold rule gone reset in sym (none-kept (p .records))) (unfold mapped in refl)
+  balance (fetch-for g b) = plain (fetch-for g b) (unfold rule gone in sym (all-kept (p .records))) (unfold mapped in refl)
+
+-- OVER A HISTORY
+
+pub held-over : (c : Config) (g : Guest) (xs : List Call) (w : World) → Whole c w → g .0 < c .settings .guests
+    → length (part c g (after (stepWorld c) w xs) .records) + takenOver c g (write c w) xs ≡ length (part c g w .records) + mappedOver c g (write c w) xs
+held-over c g [] w h l = refl
+held-over c g (x ∷ xs) w h l = rw (step-write c w x h, read-write c w h) (go (owns c g x) refl (held-over c g xs (stepWorld c w x .1) (step-keeps c w x h) l))
+  where
+    v : World
+    v = stepWorld c w x .1
+
+    go : (b : Bool) → owns c g x ≡ b → length (part c g (after (stepWorld c) v xs) .records) + takenOver c g (write c v) xs ≡ length (part c g v .records) + mappedOver c g (write c v) xs
+        → length (part c g (after (stepWorld c) v xs) .records) + (cond b (taken (own c g) (part c g w) x) 0 + takenOver c g (write c v) xs)
+        ≡ length (part c g w .records) + (cond (b && mapped x (stepWorld c w x .0)) 1 0 + mappedOver c g (write c v) xs)
+    go true e i =
+        let k : length (part c g v .records) ≡ length (rule (own c g) (part c g w) x .1 .records) = ap (λ (p : Part). length (p .records)) (step-mine c w x g h l e .1) in
+        rw (step-mine c w x g h l e .0) (omega (arith, i, k, balance (own c g) (part c g w) x))
+    go false e i =
+        let k : length (part c g v .records) ≡ length (part c g w .records) = ap (λ (p : Part). length (p .records)) (step-other c w x g h e) in
+        omega (arith, i, k)

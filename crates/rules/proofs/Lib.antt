@@ -1,0 +1,15 @@
+pub mod Records
+pub mod Attachments
+pub mod Parts
+pub mod Worlds
+pub mod Words
+pub mod Shares
+pub mod Writing
+pub mod Kept
+pub mod Soundness
+pub mod Reading
+pub mod Steps
+pub mod History
+pub mod Access
+pub mod Share
+pub mod Claims

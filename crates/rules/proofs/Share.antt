@@ -1,0 +1,146 @@
+-- NOMEM comes from the guest's share alone, and within its share a guest finds room in the table.
+use Prim.Native.Nat.{ℕ, zero, suc, _+_, _≤_, _<_}
+use mathlib.Core.Path.{_≡_, refl, sym, ap, subst, _∙_}
+use mathlib.Core.Bool.{Bool, true, false, cond, not, _&&_}
+use mathlib.Core.List.{List, [], _∷_, _++_}
+use mathlib.Core.Option.{Option, some, none}
+use native.Mathlib.Omega.{arith}
+use lib.Dec.{leb, eqb}
+use lib.ListN.{length, getD}
+use borrow.Author.Tests.{eqb-true, eqb-false, eq-eqb, leb-true, not-true}
+use Rattle.laws.specs.Lists.{all?, any?, sumBelow, firstFailing}
+use Rattle.laws.proofs.Tests.{true-false, failing-among, failing-late}
+use Rattle.laws.proofs.Tables.{sum-le}
+use Rattle.rules.specs.declared.Guest.{Guest}
+use Rattle.rules.specs.declared.Domain.{Domain}
+use Rattle.rules.specs.declared.Endpoint.{Endpoint}
+use Rattle.rules.specs.declared.Mapping.{Mapping}
+use Rattle.rules.specs.declared.Answer.{Answer}
+use Rattle.rules.specs.declared.Answer.the-variants.{NoSuchGuest}
+use Rattle.rules.specs.Sizes.{maxRecords}
+use Rattle.rules.specs.Answers.{number, usedLength}
+use Rattle.rules.specs.Configuration.{Config, share}
+use Rattle.rules.specs.Table.{keyOf, overlap}
+use Rattle.rules.specs.State.{Attachment, World, Device, configOf, read}
+use Rattle.rules.specs.Guests.{Own, Part, own, part, recordsOf, withRecords}
+use Rattle.rules.specs.Requests.{OK, INVAL, NOMEM, ATTACH, DETACH, MAP, requestRefusals, typeOf, domainField, endpointField, attachReserved, virtStart, virtEnd, unmapReserved}
+use Rattle.rules.specs.Handlers.{Steps, settle, attached, leave, attachSteps, attach, detachSteps, detach, formSteps, recordSteps, mapSteps, map, inside, without, unmapSteps, unmap, askedFor, handle}
+use Rattle.rules.specs.Access.{translated, blocked, decided, access, lookup, faultOf}
+use Rattle.rules.specs.Sound.{sound, guest}
+use Rattle.rules.specs.Device.{Call, request, access-by, reset-of, fetch-for, Reply, refused, requested, rule, caller, numbered, work, step}
+use Rattle.rules.specs.Claims.{holds, NoMemOnlyByShare, RoomWithinShare}
+use Rattle.rules.proofs.Worlds.{Whole, workedWorld, stepWorld}
+use Rattle.rules.proofs.Shares.{records-sum, shares-sum}
+use Rattle.rules.proofs.Reading.{sound-whole}
+use Rattle.rules.proofs.Steps.{reply-of}
+
+-- a status that is not OK is that of the first failing step
+settled-by : (l : Steps) (p q : Part) (s : ℕ) → 0 < s → settle (firstFailing l) p q .0 ≡ s → firstFailing l ≡ some s
+settled-by l p q s h e = go (firstFailing l) e
+  where
+    go : (v : Option ℕ) → settle v p q .0 ≡ s → v ≡ some s
+    go none e = unfold settle in absurd (omega (arith, e))
+    go (some t) e = unfold settle in ap (λ n. some n) e
+
+-- steps none of which answers NOMEM
+never-nomem : (l : Steps) (p q : Part) → all? (λ s. not (eqb (s .1) NOMEM)) l ≡ true → settle (firstFailing l) p q .0 ≡ NOMEM → ⊥
+never-nomem l p q h e = true-false {P = ⊥} (not (eqb NOMEM NOMEM)) (failing-among (λ n. not (eqb n NOMEM)) l NOMEM (settled-by l p q NOMEM (omega arith) e) h) refl
+
+map-nomem : (o : Own) (p : Part) (d : Domain) (r : Mapping) → map o p d r .0 ≡ NOMEM → o .share ≤ length (p .records)
+unfolding map
+map-nomem o p d r e = go (any? (overlap r) (p .records)) (leb (o .share) (length (p .records))) refl late
+  where
+    late : firstFailing ((any? (overlap r) (p .records), INVAL) ∷ (leb (o .share) (length (p .records)), NOMEM) ∷ []) ≡ some NOMEM
+    late = failing-late (λ n. not (eqb n NOMEM)) (recordSteps o (p .attachments) d r) _ NOMEM (settled-by (mapSteps o p d r) p _ NOMEM (omega arith) e) (unfold formSteps in refl) refl
+
+    go : (a b : Bool) → leb (o .share) (length (p .records)) ≡ b → firstFailing ((a, INVAL) ∷ (b, NOMEM) ∷ []) ≡ some NOMEM → o .share ≤ length (p .records)
+    go a true i f = leb-true _ _ i
+    go true false i f = absurd (let z : _≡_ {A = ℕ} 4 8 = cc in omega arith)
+    go false false i f = absurd (let z : _≡_ {A = ℕ} 0 1 = cc in omega arith)
+
+handle-nomem : (o : Own) (p : Part) (r : List ℕ) → handle o p r .0 ≡ NOMEM → o .share ≤ length (p .records)
+unfolding handle
+handle-nomem o p r = go (eqb (typeOf r) ATTACH) (eqb (typeOf r) DETACH) (eqb (typeOf r) MAP)
+  where
+    d : Domain
+    d = domainField r
+
+    e : Endpoint
+    e = endpointField r
+
+    go : (t u v : Bool)
+        → cond t (attach o p d e (attachReserved r)) (cond u (detach o p d e (attachReserved r)) (cond v (map o p d (askedFor o r)) (unmap o p d (virtStart r) (virtEnd r) (unmapReserved r)))) .0 ≡ NOMEM
+        → o .share ≤ length (p .records)
+    go true u v i = absurd (never-nomem (attachSteps o d e (attachReserved r)) p (attached o e d p) refl (unfold attach in i))
+    go false true v i = absurd (never-nomem (detachSteps o p d e (attachReserved r)) p (leave o e d p) refl (unfold detach in i))
+    go false false true i = map-nomem o p d (askedFor o r) i
+    go false false false i = absurd (never-nomem (unmapSteps o p d (virtStart r) (virtEnd r) (unmapReserved r)) p (withRecords (without (inside (keyOf (o .guest) d) (virtStart r) (virtEnd r)) (p .records)) p) refl (unfold unmap in i))
+
+request-nomem : (o : Own) (p : Part) (r w : List ℕ) (m : Option Answer) → firstFailing (requestRefusals r (length w)) ≡ m → usedLength (requested o p r w m .0 .answer) ≡ 4 → getD (requested o p r w m .0 .buffer) 0 0 ≡ NOMEM → o .share ≤ length (p .records)
+unfolding requested
+request-nomem o p r w none f u s = handle-nomem o p r s
+request-nomem o p r w (some a) f u s = absurd (omega (arith, u, eqb-true (usedLength a) 0 (failing-among (λ b. eqb (usedLength b) 0) (requestRefusals r (length w)) a f refl)))
+
+rule-nomem : (c : Config) (g : Guest) (w : World) (r b : List ℕ) → usedLength (rule (own c g) (part c g w) (request g r b) .0 .answer) ≡ 4 → getD (rule (own c g) (part c g w) (request g r b) .0 .buffer) 0 0 ≡ NOMEM → share (c .settings) (g .0) ≤ length (part c g w .records)
+unfolding rule own
+rule-nomem c g w r b u s = request-nomem (own c g) (part c g w) r b (firstFailing (requestRefusals r (length b))) refl u s
+
+step-nomem : (c : Config) (g : Guest) (w : World) (r b : List ℕ) → usedLength (stepWorld c w (request g r b) .0 .answer) ≡ 4 → getD (stepWorld c w (request g r b) .0 .buffer) 0 0 ≡ NOMEM → share (c .settings) (g .0) ≤ length (part c g w .records)
+unfolding stepWorld workedWorld caller work
+step-nomem c g w r b = go (not (numbered c (request g r b)))
+  where
+    go : (t : Bool)
+        → usedLength (cond t (refused NoSuchGuest (request g r b), w) (work c g w (request g r b)) .0 .answer) ≡ 4
+        → getD (cond t (refused NoSuchGuest (request g r b), w) (work c g w (request g r b)) .0 .buffer) 0 0 ≡ NOMEM → share (c .settings) (g .0) ≤ length (part c g w .records)
+    go true u s = absurd (omega (arith, u))
+    go false u s = rule-nomem c g w r b u s
+
+pub no-mem-only-by-share : NoMemOnlyByShare
+no-mem-only-by-share d s g r w u b =
+    let e = reply-of d (request g r w) s in
+    step-nomem (configOf (d .state)) g (read d) r w (ap (λ (y : Reply). usedLength (y .answer)) (sym e) ∙ u) (ap (λ (y : Reply). getD (y .buffer) 0 0) (sym e) ∙ b)
+
+-- ROOM
+
+-- one number below its bound leaves the sum below the sum of the bounds
+sum-below : (n k : ℕ) (f h : ℕ → ℕ) → k < n → ((i : ℕ) → i < n → f i ≤ h i) → f k < h k → sumBelow n f < sumBelow n h
+unfolding sumBelow
+sum-below zero k f h l a b = absurd (omega arith)
+sum-below (suc n) k f h l a b = go (eqb k n) refl (λ m. sum-below n k f h m (λ i j. a i (omega arith)) b)
+  where
+    go : (t : Bool) → eqb k n ≡ t → (k < n → sumBelow n f < sumBelow n h) → f n + sumBelow n f < h n + sumBelow n h
+    go true e i = let z : k ≡ n = eqb-true k n e in let y : f n < h n = rw (sym z) b in omega (arith, y, sum-le n f h (λ i j. a i (omega arith)))
+    go false e i = omega (arith, i (omega (arith, eqb-false k n e)), a n (omega arith))
+
+pub room-within-share : RoomWithinShare
+room-within-share d s g l h =
+    rw (records-sum (c .settings .guests) (read d .records) (whole .guests))
+    (omega (arith, sum-below (c .settings .guests) (g .0) (λ k. length (recordsOf (guest k) (read d .records))) (share (c .settings)) l (λ k m. unfold own part in whole .parts (guest k) m .share) (unfold part in h), shares-sum c (whole .config)))
+  where
+    c : Config
+    c = configOf (d .state)
+
+    whole : Whole c (read d)
+    whole = sound-whole d s
+
+-- NUMBERS
+
+-- no rule answers 2
+pub rule-number : (o : Own) (p : Part) (x : Call) → eqb (number (rule o p x .0 .answer)) 2 ≡ false
+unfolding rule
+rule-number o p (request g r w) = go (firstFailing (requestRefusals r (length w))) refl
+  where
+    go : (m : Option Answer) → firstFailing (requestRefusals r (length w)) ≡ m → eqb (number (requested o p r w m .0 .answer)) 2 ≡ false
+    go none e = unfold requested in refl
+    go (some a) e = unfold requested in not-true (eqb (number a) 2) (failing-among (λ b. not (eqb (number b) 2)) (requestRefusals r (length w)) a e refl)
+rule-number o p (access-by e x k) = unfold access in go _
+  where
+    hit : (m : Option Mapping) → eqb (number (translated e x k p m .0)) 2 ≡ false
+    hit none = unfold translated blocked in refl
+    hit (some r) = unfold translated in refl
+
+    go : (a : Attachment) → eqb (number (decided o p e x k a .0)) 2 ≡ false
+    go none = unfold decided blocked in refl
+    go (some d) = unfold decided in hit _
+rule-number o p (reset-of g) = refl
+rule-number o p (fetch-for g b) = refl

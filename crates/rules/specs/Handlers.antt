@@ -1,0 +1,185 @@
+-- "What each request does, first failing step wins", on one guest's own part of the device.
+use Prim.Native.Nat.{ℕ, _+_, _-_, _%_, _^_}
+use mathlib.Core.Bool.{Bool, true, false, cond, not, _&&_, _||_}
+use mathlib.Core.List.{List, [], _∷_, _++_}
+use mathlib.Core.Option.{Option, some, none}
+use lib.Dec.{leb, ltb, eqb}
+use lib.Count.{trailingZeros}
+use lib.ListN.{length}
+use Rattle.laws.specs.Lists.{any?, keep, firstFailing}
+use Rattle.rules.specs.declared.Endpoint.{Endpoint}
+use Rattle.rules.specs.declared.Domain.{Domain}
+use Rattle.rules.specs.declared.Mapping.{Mapping}
+use Rattle.rules.specs.Table.{keyOf, mapping, overlap, insert}
+use Rattle.rules.specs.State.{Attachment}
+use Rattle.rules.specs.Guests.{Own, Part, withAttachments, withRecords}
+use Rattle.rules.specs.Requests.{OK, INVAL, RANGE, NOENT, FAULT, NOMEM, ATTACH, DETACH, MAP, typeOf, domainField, endpointField, attachReserved, virtStart, virtEnd, physStart, mapFlags, unmapReserved}
+
+-- a request's steps: each a test that fails the request, and the status that it then gets
+abbrev pub Steps : Type 0
+Steps = List (Bool × ℕ)
+
+-- "Any status but OK changes nothing": p as it is and OK's q, by the first step that fails
+unfoldable pub settle : Option ℕ → Part → Part → ℕ × Part
+settle none p q = (OK, q)
+settle (some s) p q = (s, p)
+
+-- x lies outside the addresses, or numbers, from a to b
+unfoldable pub outside : ℕ → ℕ → ℕ → Bool
+outside a b x = ltb x a || ltb b x
+
+-- the attachment is to domain d
+unfoldable pub isIn : Domain → Attachment → Bool
+isIn d none = false
+isIn d (some e) = eqb (e .0) (d .0)
+
+-- "A domain exists for a guest exactly while at least one of its endpoints is attached to it." (document 01's term)
+unfoldable pub exists : Domain → List Attachment → Bool
+exists d l = any? (isIn d) l
+
+-- endpoint e is among the guest's own
+unfoldable pub listed : Endpoint → List ℕ → Bool
+listed e es = any? (eqb (e .0)) es
+
+-- the attachment of endpoint e, where es are the endpoints of the attachments l
+abbrev pub attachmentOf : Endpoint → List ℕ → List Attachment → Attachment
+attachmentOf e [] l = none
+attachmentOf e (k ∷ es) [] = none
+attachmentOf e (k ∷ es) (a ∷ l) = cond (eqb k (e .0)) a (attachmentOf e es l)
+
+-- the attachments with that of endpoint e become b
+abbrev pub attachedAs : Endpoint → Attachment → List ℕ → List Attachment → List Attachment
+attachedAs e b [] l = l
+attachedAs e b (k ∷ es) [] = []
+attachedAs e b (k ∷ es) (a ∷ l) = cond (eqb k (e .0)) (b ∷ l) (a ∷ attachedAs e b es l)
+
+-- the record is of the guest and domain that the key names
+unfoldable pub ofKey : ℕ → Mapping → Bool
+ofKey key r = eqb (r .key) key
+
+-- the records without those that pass the test: the one removal of UNMAP, DETACH, moves and reset
+unfoldable pub without : (Mapping → Bool) → List Mapping → List Mapping
+without q l = keep (λ r. not (q r)) l
+
+-- endpoint e leaves domain d; "When the last endpoint leaves a domain, all its records go."
+unfoldable pub leave : Own → Endpoint → Domain → Part → Part
+leave o e d p =
+    record {
+      attachments = attachedAs e none (o .endpoints) (p .attachments);
+      records = without (λ r. not (exists d (attachedAs e none (o .endpoints) (p .attachments))) && ofKey (keyOf (o .guest) d) r) (p .records);
+      log = p .log;
+    }
+
+unfoldable pub enter : Own → Endpoint → Domain → Part → Part
+enter o e d p = withAttachments (attachedAs e (some d) (o .endpoints) (p .attachments)) p
+
+-- "In another: first as DETACH from there."
+unfoldable pub moveFrom : Own → Endpoint → Attachment → Part → Part
+moveFrom o e none p = p
+moveFrom o e (some d) p = leave o e d p
+
+-- "Already in this domain: OK, no change. In another: first as DETACH from there. Then attached, OK."
+unfoldable pub attached : Own → Endpoint → Domain → Part → Part
+attached o e d p =
+    cond (isIn d (attachmentOf e (o .endpoints) (p .attachments))) p
+    (enter o e d (moveFrom o e (attachmentOf e (o .endpoints) (p .attachments)) p))
+
+abbrev pub attachSteps : Own → Domain → Endpoint → ℕ → Steps
+attachSteps o d e reserved =
+    -- "reserved not zero, INVAL"
+    (not (eqb reserved 0), INVAL)
+    -- "Endpoint not listed or not this guest's, NOENT"
+    ∷ (not (listed e (o .endpoints)), NOENT)
+    -- "Domain outside the range, RANGE"
+    ∷ (outside (o .domains .start) (o .domains .end) (d .0), RANGE)
+    ∷ []
+
+unfoldable pub attach : Own → Part → Domain → Endpoint → ℕ → ℕ × Part
+attach o p d e reserved = settle (firstFailing (attachSteps o d e reserved)) p (attached o e d p)
+
+abbrev pub detachSteps : Own → Part → Domain → Endpoint → ℕ → Steps
+detachSteps o p d e reserved =
+    -- "reserved not zero, INVAL"
+    (not (eqb reserved 0), INVAL)
+    -- "Endpoint as above, NOENT"
+    ∷ (not (listed e (o .endpoints)), NOENT)
+    -- "Not attached to this domain, INVAL"
+    ∷ (not (isIn d (attachmentOf e (o .endpoints) (p .attachments))), INVAL)
+    ∷ []
+
+-- "Else detached, OK."
+unfoldable pub detach : Own → Part → Domain → Endpoint → ℕ → ℕ × Part
+detach o p d e reserved = settle (firstFailing (detachSteps o p d e reserved)) p (leave o e d p)
+
+-- "g is the lowest set bit of page_size_mask, as a number."
+unfoldable pub granularity : ℕ → ℕ
+granularity mask = 2 ^ trailingZeros 64 mask
+
+-- MAP's steps 2 to 6, which are about the record r alone
+unfoldable pub formSteps : Own → Mapping → Steps
+formSteps o r =
+    -- "2. a flag bit other than READ (1) and WRITE (2): INVAL"
+    (ltb 3 (r .flags), INVAL)
+    -- "3. virt_end ≤ virt_start: RANGE"
+    ∷ (leb (r .end) (r .start), RANGE)
+    -- "4. virt_start or virt_end + 1 not a multiple of g: RANGE"
+    ∷ (not (eqb (r .start % granularity (o .mask)) 0) || not (eqb ((r .end + 1) % granularity (o .mask)) 0), RANGE)
+    -- "5. any address outside the input range: RANGE"
+    ∷ (outside (o .input .start) (o .input .end) (r .start) || outside (o .input .start) (o .input .end) (r .end), RANGE)
+    -- "6. phys_start or phys_start + virt_end − virt_start outside the guest's window: FAULT"
+    ∷ (outside (o .first) (o .last) (r .phys) || outside (o .first) (o .last) (r .phys + r .end - r .start), FAULT)
+    ∷ []
+
+-- MAP's steps 1 to 6, which soundness asks of every record too: "1. domain doesn't exist for this guest: NOENT"
+abbrev pub recordSteps : Own → List Attachment → Domain → Mapping → Steps
+recordSteps o l d r = (not (exists d l), NOENT) ∷ formSteps o r
+
+abbrev pub mapSteps : Own → Part → Domain → Mapping → Steps
+mapSteps o p d r =
+    recordSteps o (p .attachments) d r
+    -- "7. overlaps a record of this domain: INVAL"
+    ++ (any? (overlap r) (p .records), INVAL)
+    -- "8. guest already holds its share: NOMEM"
+    ∷ (leb (o .share) (length (p .records)), NOMEM)
+    ∷ []
+
+-- "Else recorded, OK."
+unfoldable pub map : Own → Part → Domain → Mapping → ℕ × Part
+map o p d r = settle (firstFailing (mapSteps o p d r)) p (withRecords (insert r (p .records)) p)
+
+-- a record of the key's domain inside the range from a to b
+unfoldable pub inside : ℕ → ℕ → ℕ → Mapping → Bool
+inside key a b r = ofKey key r && (leb a (r .start) && leb (r .end) b)
+
+-- a record of the key's domain that the range meets, "partly inside and partly outside the range"
+unfoldable pub straddles : ℕ → ℕ → ℕ → Mapping → Bool
+straddles key a b r = (ofKey key r && (leb (r .start) b && leb a (r .end))) && not (inside key a b r)
+
+abbrev pub unmapSteps : Own → Part → Domain → ℕ → ℕ → ℕ → Steps
+unmapSteps o p d a b reserved =
+    -- "domain doesn't exist, NOENT"
+    (not (exists d (p .attachments)), NOENT)
+    -- "reserved not zero, INVAL"
+    ∷ (not (eqb reserved 0), INVAL)
+    -- "virt_end < virt_start, RANGE"
+    ∷ (ltb b a, RANGE)
+    -- "some record of this guest's domain partly inside and partly outside the range, RANGE"
+    ∷ (any? (straddles (keyOf (o .guest) d) a b) (p .records), RANGE)
+    ∷ []
+
+-- "else every record of that domain inside the range goes, OK, even if there are none"
+unfoldable pub unmap : Own → Part → Domain → ℕ → ℕ → ℕ → ℕ × Part
+unmap o p d a b reserved =
+    settle (firstFailing (unmapSteps o p d a b reserved)) p (withRecords (without (inside (keyOf (o .guest) d) a b) (p .records)) p)
+
+-- the record that a MAP request asks for
+abbrev pub askedFor : Own → List ℕ → Mapping
+askedFor o r = mapping (keyOf (o .guest) (domainField r)) (virtStart r) (virtEnd r) (physStart r) (mapFlags r)
+
+-- the request in the readable part r, by its type
+unfoldable pub handle : Own → Part → List ℕ → ℕ × Part
+handle o p r =
+    cond (eqb (typeOf r) ATTACH) (attach o p (domainField r) (endpointField r) (attachReserved r))
+    (cond (eqb (typeOf r) DETACH) (detach o p (domainField r) (endpointField r) (attachReserved r))
+    (cond (eqb (typeOf r) MAP) (map o p (domainField r) (askedFor o r))
+    (unmap o p (domainField r) (virtStart r) (virtEnd r) (unmapReserved r))))

@@ -1,0 +1,14 @@
+pub mod Sizes
+pub mod Configuration
+pub mod Table
+pub mod State
+pub mod Guests
+pub mod Answers
+pub mod Requests
+pub mod Handlers
+pub mod Access
+pub mod Sound
+pub mod Device
+pub mod History
+pub mod Claims
+pub mod Examples

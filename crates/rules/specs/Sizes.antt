@@ -1,0 +1,41 @@
+-- The sizes of document 01, each named once.
+use Prim.Native.Nat.{ℕ, _*_, _^_}
+
+-- "one to four guests"
+abbrev pub maxGuests : ℕ
+maxGuests = 4
+
+-- "at most 32 entries"
+abbrev pub maxEndpoints : ℕ
+maxEndpoints = 32
+
+-- "256 records of five words"
+abbrev pub maxRecords : ℕ
+maxRecords = 256
+
+abbrev pub recordWords : ℕ
+recordWords = 5
+
+-- "1,280 lent 64-bit words"
+abbrev pub tableWords : ℕ
+tableWords = 1280
+
+-- "a fault log of at most 16 records"
+abbrev pub maxFaults : ℕ
+maxFaults = 16
+
+-- the places for the faults of all guests
+abbrev pub faultPlaces : ℕ
+faultPlaces = 64
+
+-- "a lost count that stops at 65,535"
+abbrev pub maxLost : ℕ
+maxLost = 65535
+
+-- "Fault record, 24 bytes"
+abbrev pub faultSize : ℕ
+faultSize = 24
+
+-- the 2^32 of "guest × 2^32 + domain"
+abbrev pub domainSpan : ℕ
+domainSpan = 2 ^ 32

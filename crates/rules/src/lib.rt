@@ -1,0 +1,105 @@
+// The types that the definitions and the code share. There is no function here.
+
+// A guest's number, below the guest count.
+#[repr(C)]
+pub struct Guest(pub u8);
+
+// An endpoint's number: a device, as the bus names it.
+#[repr(C)]
+pub struct Endpoint(pub u32);
+
+// A domain's number. Each guest has domains of its own.
+#[repr(C)]
+pub struct Domain(pub u32);
+
+// The addresses, or the domain numbers, from start to end, both included.
+#[repr(C)]
+pub struct InputRange {
+    pub start: u64,
+    pub end: u64,
+}
+
+#[repr(C)]
+pub struct DomainRange {
+    pub start: u32,
+    pub end: u32,
+}
+
+// What set-up takes besides the endpoint lists: for guest g its share, and its window from firsts[g] to lasts[g].
+#[repr(C)]
+pub struct Settings {
+    pub guests: usize,
+    pub shares: [u32; 4],
+    pub firsts: [u64; 4],
+    pub lasts: [u64; 4],
+    pub mask: u64,
+    pub input: InputRange,
+    pub domains: DomainRange,
+}
+
+// The device's state. Endpoint i has its number, owner, attached flag (0 or 1) and domain at place i of four arrays;
+// fault j of guest g stands at place 16 g + j of four arrays, with the guest's number of faults in logged.
+#[repr(C)]
+pub struct State {
+    pub settings: Settings,
+    pub listed: usize,
+    pub endpoints: [u32; 32],
+    pub owners: [u8; 32],
+    pub attached: [u8; 32],
+    pub domains: [u32; 32],
+    pub live: usize,
+    pub logged: [usize; 4],
+    pub lost: [u32; 4],
+    pub reasons: [u8; 64],
+    pub flags: [u32; 64],
+    pub sources: [u32; 64],
+    pub addresses: [u64; 64],
+}
+
+// A mapping record, the five words of the table: key is guest times 2^32 plus domain, start and end are virt_start and
+// virt_end, phys is phys_start.
+#[repr(C)]
+pub struct Mapping {
+    pub key: u64,
+    pub start: u64,
+    pub end: u64,
+    pub phys: u64,
+    pub flags: u64,
+}
+
+// A logged fault.
+#[repr(C)]
+pub struct Fault {
+    pub reason: u8,
+    pub flags: u32,
+    pub endpoint: Endpoint,
+    pub address: u64,
+}
+
+// What a call is answered.
+pub enum Answer {
+    // Set-up or reset, done.
+    Done,
+    // A request, worked: its status is in the writable part.
+    Served,
+    // An access that goes through to this address.
+    Through(u64),
+    // A fetch that gave so many faults.
+    Fetched(usize),
+    // The guest number is not below the guest count.
+    NoSuchGuest,
+    // The table's length, or the state and table, are not sound.
+    Unsound,
+    // The request's type is not 1 to 4.
+    UnknownType,
+    // A part of the request is too short or has not the type's length.
+    WrongLength,
+    // The configuration is not good.
+    BadConfiguration,
+    // The endpoint of an access is not listed.
+    UnknownEndpoint,
+    // The endpoint of an access is not attached.
+    Unattached,
+    // No mapping permits an access.
+    Unmapped,
+}
