@@ -24,7 +24,7 @@ use Rattle.rules.specs.Table.{keyOf, insert}
 use Rattle.rules.specs.State.{Attachment, World, Device, read, write}
 use Rattle.rules.specs.Guests.{Own, Part, own, part, withRecords}
 use Rattle.rules.specs.Requests.{OK, ATTACH, DETACH, MAP, requestRefusals, typeOf, domainField, endpointField, attachReserved, virtStart, virtEnd, unmapReserved}
-use Rattle.rules.specs.Handlers.{settle, isIn, exists, attachmentOf, attachedAs, ofKey, without, leave, enter, moveFrom, attached, attachSteps, attach, detachSteps, detach, formSteps, recordSteps, mapSteps, map, inside, unmapSteps, unmap, askedFor, handle}
+use Rattle.rules.specs.Handlers.{settle, isIn, exists, attachmentOf, attachedAs, ofKey, without, leave, enter, moveFrom, attached, attachSteps, attach, detachSteps, detach, formSteps, recordSteps, mapSteps, addMapping, inside, unmapSteps, unmap, askedFor, handle}
 use Rattle.rules.specs.Access.{lookup, blocked, translated, decided, access, reset, faultOf}
 use Rattle.rules.specs.Sound.{passes}
 use Rattle.rules.specs.Device.{Call, request, access-by, reset-of, fetch-for, Reply, requested, rule, owns, step}
@@ -119,8 +119,8 @@ module _ (o : Own) (p : Part) where
   no-map-status : (d : Domain) (r : Mapping) (s : ℕ) → firstFailing (mapSteps o p d r) ≡ some s → eqb s 0 ≡ false
   no-map-status d r s e = not-true (eqb s 0) (failing-among (λ n. not (eqb n 0)) (mapSteps o p d r) s e (unfold formSteps in refl))
 
-  map-balance : (d : Domain) (r : Mapping) → length (map o p d r .1 .records) ≡ length (p .records) + cond (eqb (map o p d r .0) OK) 1 0
-  unfolding map
+  map-balance : (d : Domain) (r : Mapping) → length (addMapping o p d r .1 .records) ≡ length (p .records) + cond (eqb (addMapping o p d r .0) OK) 1 0
+  unfolding addMapping
   map-balance d r = go (firstFailing (mapSteps o p d r)) refl
     where
       go : (v : Option ℕ) → firstFailing (mapSteps o p d r) ≡ v → length (settle v p (withRecords (insert r (p .records)) p) .1 .records) ≡ length (p .records) + cond (eqb (settle v p (withRecords (insert r (p .records)) p) .0) OK) 1 0

@@ -23,7 +23,7 @@ use Rattle.rules.specs.Table.{keyOf, guestOf, domainOf, before, overlap,
 use Rattle.rules.specs.State.{Attachment, Log, noLog}
 use Rattle.rules.specs.Guests.{Own, Part, withRecords, withLog}
 use Rattle.rules.specs.Requests.{requestRefusals, typeOf, ATTACH, DETACH, MAP, domainField, endpointField, attachReserved, virtStart, virtEnd, unmapReserved}
-use Rattle.rules.specs.Handlers.{Steps, settle, outside, isIn, exists, listed, attachmentOf, attachedAs, ofKey, without, leave, enter, moveFrom, attached, attachSteps, attach, detachSteps, detach, formSteps, recordSteps, mapSteps, map, inside, unmapSteps, unmap, askedFor, handle}
+use Rattle.rules.specs.Handlers.{Steps, settle, outside, isIn, exists, listed, attachmentOf, attachedAs, ofKey, without, leave, enter, moveFrom, attached, attachSteps, attach, detachSteps, detach, formSteps, recordSteps, mapSteps, addMapping, inside, unmapSteps, unmap, askedFor, handle}
 use Rattle.rules.specs.Access.{flagFor, logged, faultOf, blocked, translated, lookup, decided, access, reset, fetchable, fetchedFrom}
 use Rattle.rules.specs.Sound.{passes, faultGood}
 use Rattle.rules.specs.Device.{Call, request, access-by, reset-of, fetch-for, Reply, requested, rule}
@@ -229,8 +229,8 @@ attached-facts o p e d r f = either-way (Facts o) (isIn d a) (λ _. f) (λ _. go
 
 -- A RECORD MAPPED
 
-pub map-facts : (o : Own) (p : Part) (d : Domain) (r : Mapping) → r .key ≡ keyOf (o .guest) d → Facts o p → Facts o (map o p d r .1)
-unfolding map
+pub map-facts : (o : Own) (p : Part) (d : Domain) (r : Mapping) → r .key ≡ keyOf (o .guest) d → Facts o p → Facts o (addMapping o p d r .1)
+unfolding addMapping
 map-facts o p d r k f = settle-keeps (Facts o) (mapSteps o p d r) p (withRecords (insert r (p .records)) p) f go
   where
     go : Clear (mapSteps o p d r) → Facts o (withRecords (insert r (p .records)) p)

@@ -36,7 +36,7 @@ use Rattle.rules.proofs.Writing.{kept, config-back, fault-back, read-wr
 use Rattle.rules.proofs.Kept.{good-kept, own-kept, kept-twice, write-kept}
 
 -- what each guest's records pass, all records pass
-all-guests : (n : ℕ) (q : ℕ → Mapping → Bool) (l : List Mapping) → all? (λ r. ltb (guestOf r) n) l ≡ true → ((g : ℕ) → g < n → all? (q g) (recordsOf (guest g) l) ≡ true) → all? (λ r. q (guestOf r) r) l ≡ true
+pub all-guests : (n : ℕ) (q : ℕ → Mapping → Bool) (l : List Mapping) → all? (λ r. ltb (guestOf r) n) l ≡ true → ((g : ℕ) → g < n → all? (q g) (recordsOf (guest g) l) ≡ true) → all? (λ r. q (guestOf r) r) l ≡ true
 all-guests n q [] h f = refl
 all-guests n q (r ∷ l) h f =
     both (q (guestOf r) r) (all? (λ s. q (guestOf s) s) l)

@@ -16,7 +16,7 @@ use Rattle.rules.specs.Table.{tableOf, before, overlap}
 use Rattle.rules.specs.State.{Device, configOf, read, write, stateOf, trimmed, start, zeroState}
 use Rattle.rules.specs.Guests.{own, part, replace, withRecordsOf}
 use Rattle.rules.specs.Requests.{OK, INVAL, RANGE, NOMEM, ATTACH, MAP, UNMAP}
-use Rattle.rules.specs.Handlers.{settle, outside, isIn, exists, listed, ofKey, without, leave, enter, moveFrom, attached, attach, detach, granularity, formSteps, map, inside, straddles, unmap, handle}
+use Rattle.rules.specs.Handlers.{settle, outside, isIn, exists, listed, ofKey, without, leave, enter, moveFrom, attached, attach, detach, granularity, formSteps, addMapping, inside, straddles, unmap, handle}
 use Rattle.rules.specs.Access.{reset}
 use Rattle.rules.specs.Sound.{guest, recordGood, attachmentGood, faultGood, zeroFrom, faultPlaceGood, sound}
 use Rattle.rules.specs.Device.{Call, request, Reply, requested, rule, caller, work, worked, step, setUp}
@@ -107,5 +107,5 @@ wanted e = (L.map worked-request (e .statuses), e .held)
 
 -- P1 to P10
 pub worked-examples : L.map outcome examples ≡ L.map wanted examples
-unfolding outcome wanted examples config asks attaches maps unmaps ready told worked-request range below sumBelow tabFrom trailingZeros goodSettings goodLists good tableOf before overlap configOf read write stateOf trimmed start zeroState own part replace withRecordsOf settle outside isIn exists listed ofKey without leave enter moveFrom attached attach detach granularity formSteps map inside straddles unmap handle reset recordGood attachmentGood faultGood zeroFrom faultPlaceGood sound requested rule caller work worked step setUp
+unfolding outcome wanted examples config asks attaches maps unmaps ready told worked-request range below sumBelow tabFrom trailingZeros goodSettings goodLists good tableOf before overlap configOf read write stateOf trimmed start zeroState own part replace withRecordsOf settle outside isIn exists listed ofKey without leave enter moveFrom attached attach detach granularity formSteps addMapping inside straddles unmap handle reset recordGood attachmentGood faultGood zeroFrom faultPlaceGood sound requested rule caller work worked step setUp
 worked-examples = refl

@@ -144,8 +144,8 @@ mapSteps o p d r =
     ∷ []
 
 -- "Else recorded, OK."
-unfoldable pub map : Own → Part → Domain → Mapping → ℕ × Part
-map o p d r = settle (firstFailing (mapSteps o p d r)) p (withRecords (insert r (p .records)) p)
+unfoldable pub addMapping : Own → Part → Domain → Mapping → ℕ × Part
+addMapping o p d r = settle (firstFailing (mapSteps o p d r)) p (withRecords (insert r (p .records)) p)
 
 -- a record of the key's domain inside the range from a to b
 unfoldable pub inside : ℕ → ℕ → ℕ → Mapping → Bool
@@ -181,5 +181,5 @@ unfoldable pub handle : Own → Part → List ℕ → ℕ × Part
 handle o p r =
     cond (eqb (typeOf r) ATTACH) (attach o p (domainField r) (endpointField r) (attachReserved r))
     (cond (eqb (typeOf r) DETACH) (detach o p (domainField r) (endpointField r) (attachReserved r))
-    (cond (eqb (typeOf r) MAP) (map o p (domainField r) (askedFor o r))
+    (cond (eqb (typeOf r) MAP) (addMapping o p (domainField r) (askedFor o r))
     (unmap o p (domainField r) (virtStart r) (virtEnd r) (unmapReserved r))))

@@ -1,0 +1,4 @@
+pub mod Rewriting
+pub mod Shifting
+pub mod Turns
+pub mod Offsets

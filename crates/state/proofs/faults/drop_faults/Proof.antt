@@ -1,0 +1,67 @@
+-- Past the last guest nothing is shifted; else at most sixteen places count.
+use borrow.Author.Needs.{needs, length-unmapped}
+use native.Mathlib.Nat.{min-le-left, min-le-right}
+use Prim.Native.Nat.{ℕ, _-_}
+use lib.ListN.{getD}
+use lib.Seq.{set-out}
+use Rattle.state.specs.Changes.{faultsDropped}
+use Rattle.state.proofs.Offsets.{times-eight, guest-below}
+use Rattle.state.proofs.Shifting.{shifted-none, shifted-cap}
+use Rattle.state.proofs.Turns.{minus-least}
+use Rattle.state.proofs.faults.drop_faults.Statement.{statement}
+use Rattle.state.proofs.faults.drop_faults.Tie as tie
+
+returns : tie.Need-returns
+unfolding faultsDropped
+returns c =
+    let a = c .before .before .args in
+    let s = a .t1 in
+    let g = a .g .0 in
+    let h = c .if1 .taken in
+    let w = c .before .before .good .0 .1 .1 .1 .1 .1 .1 .1 .1 .1 in
+    let n = length-unmapped ℕ (s .logged) 4 (w .0 .1 .0 .1) in
+    let p = length-unmapped ℕ (s .reasons) 64 (w .1 .1 .0 .1 .0 .1) in
+    let q = length-unmapped ℕ (s .flags) 64 (w .1 .1 .1 .0 .1 .0 .1) in
+    let r = length-unmapped ℕ (s .sources) 64 (w .1 .1 .1 .1 .0 .1 .0 .1) in
+    let t = length-unmapped ℕ (s .addresses) 64 (w .1 .1 .1 .1 .1 .0 .1 .0 .1) in
+    rw (
+      set-out (s .logged) g (getD (s .logged) g 0 - a .k) (rw n h),
+      shifted-none g (a .k) (s .reasons) p h,
+      shifted-none g (a .k) (s .flags) q h,
+      shifted-none g (a .k) (s .sources) r h,
+      shifted-none g (a .k) (s .addresses) t h,
+    )
+
+returns-2 : tie.Need-returns-2
+unfolding faultsDropped
+returns-2 c =
+    let b = c .before .before in
+    let a = b .before .before .before .before .args in
+    let s = a .t1 in
+    let g = a .g .0 in
+    rw (
+      c .least2 .ensures,
+      c .before .shift-faults .ensures,
+      b .least .ensures,
+      minus-least (getD (s .logged) g 0) (a .k),
+      shifted-cap g (a .k) (s .reasons),
+      shifted-cap g (a .k) (s .flags),
+      shifted-cap g (a .k) (s .sources),
+      shifted-cap g (a .k) (s .addresses),
+    )
+
+pub drop-faults-spec : {M : Type 1} → statement M
+drop-faults-spec =
+    tie.close
+    (tie.spec
+    (λ c. search needs)
+    returns
+    (λ c. times-eight _ (guest-below _ (c .if1 .left)))
+    (λ c. c .if1 .left)
+    (λ c κs. tt)
+    (λ c κs. rw (c .least .ensures) (min-le-right _ 16))
+    (λ c κs. tt)
+    (λ c. rw (c .least2 .ensures) (min-le-left _ _))
+    (λ c. times-eight _ (guest-below _ (c .before .before .before .before .if1 .left)))
+    (λ c. c .before .before .before .before .if1 .left)
+    returns-2)

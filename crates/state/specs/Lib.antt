@@ -1,0 +1,4 @@
+pub mod Fields
+pub mod Changes
+pub mod Places
+pub mod Search

@@ -1,0 +1,12 @@
+-- `table::search::meets` meets its contract. Assumes nothing.
+use borrow.Author.Needs.{needs}
+use Rattle.rules.specs.Table.{overlap}
+use Rattle.table.proofs.search.meets.Statement.{statement}
+use Rattle.table.proofs.search.meets.Tie as tie
+
+returns : tie.Need-returns
+unfolding overlap
+returns c = search needs
+
+pub meets-spec : {M : Type 1} → statement M
+meets-spec = tie.close (tie.spec returns)

@@ -1,0 +1,34 @@
+// Little-endian numbers in the readable part.
+ghost use mathlib.Core.Path.{_≡_};
+ghost use Prim.Native.Nat.{_+_, _^_, _<_, _≤_};
+ghost use lib.ListN.{length};
+ghost use Rattle.laws.specs.Bytes.{field};
+
+// A byte as a number of 64 bits.
+fn wide(x: u8) -> u64
+    ensures { λ r. ⌜ r ≡ x ⌝ }
+{
+    x as u64
+}
+
+// The number in the n bytes that start at byte k.
+pub(crate) fn number_at(bytes: &[u8], k: usize, n: usize) -> u64
+    requires { ⌜ (k + n ≤ length (now bytes)) × (n ≤ 8) ⌝ }
+    ensures { λ r. ⌜ (r ≡ field k n (now (bytes .entry))) × (r < 256 ^ n) ⌝ }
+{
+    let mut x: u64 = 0;
+    let mut left = n;
+    while 0 < left {
+        left -= 1;
+        x = 256 * x + wide(bytes[k + left]);
+    }
+    x
+}
+
+// The 32-bit number in the four bytes that start at byte k.
+pub(crate) fn u32_at(bytes: &[u8], k: usize) -> u32
+    requires { ⌜ k + 4 ≤ length (now bytes) ⌝ }
+    ensures { λ r. ⌜ r ≡ field k 4 (now (bytes .entry)) ⌝ }
+{
+    number_at(bytes, k, 4) as u32
+}
