@@ -1,0 +1,43 @@
+-- One pass over the live records, each beside the one before it.
+use Prim.Native.Nat.{ℕ}
+use mathlib.Core.Bool.{Bool, true, false, not, _&&_, _||_}
+use mathlib.Core.List.{List, [], _∷_}
+use lib.Dec.{leb, ltb, eqb}
+use lib.ListN.{length}
+use Rattle.laws.specs.Lists.{below, firstFailing}
+use Rattle.rules.specs.declared.InputRange.{InputRange}
+use Rattle.rules.specs.declared.Settings.{Settings}
+use Rattle.rules.specs.declared.Mapping.{Mapping}
+use Rattle.rules.specs.Configuration.{share, first, last}
+use Rattle.rules.specs.Table.{guestOf, domainOf}
+use Rattle.rules.specs.Guests.{recordsOf}
+use Rattle.rules.specs.Handlers.{exists, formSteps}
+use Rattle.rules.specs.Sound.{guest, passes}
+use Rattle.soundness.specs.Pieces.{limits, attachmentsOf}
+
+-- s may stand right after r: a higher first word, or the same and addresses past those of r
+unfoldable pub follows : Mapping → Mapping → Bool
+follows r s = ltb (r .key) (s .key) || (eqb (r .key) (s .key) && ltb (r .end) (s .start))
+
+-- steps 2 to 6 of MAP pass, within these limits
+unfoldable pub formGood : ℕ → InputRange → ℕ → ℕ → Mapping → Bool
+formGood mask input first last r = passes (firstFailing (formSteps (limits mask input first last) r))
+
+-- the record's guest is one, and steps 2 to 6 of MAP pass for it
+unfoldable pub ownGood : Settings → Mapping → Bool
+ownGood s r = ltb (guestOf r) (s .guests) && formGood (s .mask) (s .input) (first s (guestOf r)) (last s (guestOf r)) r
+
+-- step 1 of MAP passes: the record's domain exists for its guest
+unfoldable pub domainGood : ℕ → List ℕ → List ℕ → List ℕ → Mapping → Bool
+domainGood n owners attached domains r = exists (domainOf r) (attachmentsOf (guestOf r) n owners attached domains)
+
+-- each record's own tests, its place after the one before, p, and its domain where that is not the domain of p;
+-- the first record has none before it
+abbrev pub scan : (Mapping → Bool) → (Mapping → Bool) → Bool → Mapping → List Mapping → Bool
+scan form domain start p [] = true
+scan form domain start p (r ∷ l) =
+    (form r && ((start || follows p r) && ((not start && eqb (p .key) (r .key)) || domain r))) && scan form domain false r l
+
+-- "no guest holds more than its share"
+unfoldable pub sharesKept : Settings → List Mapping → Bool
+sharesKept s l = below (s .guests) (λ g. leb (length (recordsOf (guest g) l)) (share s g))

@@ -1,0 +1,110 @@
+// The test that a state and a table are sound.
+mod attachments;
+mod logs;
+mod records;
+mod zeros;
+
+ghost use mathlib.Core.Path.{_≡_};
+ghost use lib.Dec.{eqb};
+ghost use lib.ListN.{length, take};
+ghost use Rattle.rules.specs.Sound.{sound};
+ghost use Rattle.soundness.specs.Pieces.{deviceOf};
+use attachments::attachments_good;
+use logs::counts_within;
+use logs::faults_good;
+use logs::lost_within;
+use records::records_good;
+use rules::Settings;
+use state::configuration::good_lists;
+use state::configuration::good_settings;
+use zeros::unused_zero;
+
+// The words of the table.
+const TABLE_WORDS: usize = 1280;
+
+// The records that it has room for.
+const MAX_RECORDS: usize = 256;
+
+// The words of a record.
+const RECORD_WORDS: usize = 5;
+
+// Whether there are n endpoints.
+fn has_places(endpoints: &[u32], n: usize) -> bool
+    ensures { λ r. ⌜ r ≡ eqb (length (take n (now (endpoints .entry)))) n ⌝ }
+{
+    n <= endpoints.len()
+}
+
+// Whether the state that these pieces make up, and the table, are sound.
+pub fn is_sound<'a>(
+    settings: Settings,
+    listed: usize,
+    live: usize,
+    endpoints: &'a [u32; 32],
+    owners: &'a [u8; 32],
+    attached: &'a [u8; 32],
+    domains: &'a [u32; 32],
+    logged: &'a [usize; 4],
+    lost: &'a [u32; 4],
+    reasons: &'a [u8; 64],
+    flags: &'a [u32; 64],
+    sources: &'a [u32; 64],
+    addresses: &'a [u64; 64],
+    t: &'a [u64],
+) -> bool
+    ensures { λ r. ⌜ r ≡ sound (deviceOf settings listed live (now (endpoints .entry)) (now (owners .entry)) (now (attached .entry)) (now (domains .entry)) (now (logged .entry)) (now (lost .entry)) (now (reasons .entry)) (now (flags .entry)) (now (sources .entry)) (now (addresses .entry)) (now (t .entry))) ⌝ }
+{
+    if t.len() != TABLE_WORDS {
+        return false;
+    }
+    if live > MAX_RECORDS {
+        return false;
+    }
+    if !has_places(endpoints, listed) {
+        return false;
+    }
+    if !good_settings(settings) {
+        return false;
+    }
+    if !good_lists(settings, listed, endpoints, owners) {
+        return false;
+    }
+    if !unused_zero(
+        settings,
+        listed,
+        endpoints,
+        owners,
+        attached,
+        domains,
+        logged,
+        lost,
+    ) {
+        return false;
+    }
+    if !attachments_good(settings.domains, listed, attached, domains) {
+        return false;
+    }
+    let guests = settings.guests;
+    if !counts_within(guests, logged) {
+        return false;
+    }
+    if !lost_within(guests, lost) {
+        return false;
+    }
+    if !faults_good(
+        listed,
+        endpoints,
+        owners,
+        logged,
+        reasons,
+        flags,
+        sources,
+        addresses,
+    ) {
+        return false;
+    }
+    if !table::zero_from(t, RECORD_WORDS * live) {
+        return false;
+    }
+    records_good(settings, listed, live, owners, attached, domains, t)
+}

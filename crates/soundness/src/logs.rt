@@ -1,0 +1,148 @@
+// The guests' fault logs.
+ghost use mathlib.Core.Path.{_≡_};
+ghost use mathlib.Core.Bool.{cond};
+ghost use Prim.Native.Nat.{_≤_, _<_};
+ghost use lib.Dec.{leb};
+ghost use lib.ListN.{length, getD, take};
+ghost use Rattle.laws.specs.Lists.{below, pickBy};
+ghost use Rattle.rules.specs.Sizes.{maxFaults, faultPlaces, maxLost};
+ghost use Rattle.rules.specs.State.{configOf};
+ghost use Rattle.rules.specs.Handlers as handlers;
+ghost use Rattle.rules.specs.Sound.{faultGood, faultZero, faultPlaceGood};
+ghost use Rattle.soundness.specs.Pieces.{endpointsAlone, faultsAlone};
+use crate::zeros::zero_u8;
+use crate::zeros::zero_u32;
+use crate::zeros::zero_usize;
+use rules::Endpoint;
+use rules::Fault;
+
+// The places for a guest's faults.
+const MAX_FAULTS: usize = 16;
+
+// The same number.
+pub(crate) fn index(x: u8) -> usize
+    ensures { λ r. ⌜ r ≡ x ⌝ }
+{
+    x as usize
+}
+
+// Whether the log counts of the first n guests are at most 16.
+pub(crate) fn counts_within(n: usize, logged: &[usize; 4]) -> bool
+    requires { ⌜ n ≤ 4 ⌝ }
+    ensures { λ r. ⌜ r ≡ below n (λ g. leb (getD (now (logged .entry)) g 0) maxFaults) ⌝ }
+{
+    let mut ok = true;
+    for g in 0..n {
+        let count = logged[g];
+        ok = (count <= MAX_FAULTS) & ok;
+    }
+    ok
+}
+
+// Whether their lost counts are at most 65,535.
+pub(crate) fn lost_within(n: usize, lost: &[u32; 4]) -> bool
+    requires { ⌜ n ≤ 4 ⌝ }
+    ensures { λ r. ⌜ r ≡ below n (λ g. leb (getD (now (lost .entry)) g 0) maxLost) ⌝ }
+{
+    let mut ok = true;
+    for g in 0..n {
+        let count = lost[g];
+        ok = (count <= 65535) & ok;
+    }
+    ok
+}
+
+// Whether e is an endpoint of guest g, among the first n endpoints.
+fn is_listed<'a>(n: usize, endpoints: &'a [u32], owners: &'a [u8], g: usize, e: Endpoint) -> bool
+    requires { ⌜ (n ≤ length (now owners)) × (n ≤ length (now endpoints)) ⌝ }
+    ensures { λ r. ⌜ r ≡ handlers.listed e (pickBy g (take n (now (owners .entry))) (take n (now (endpoints .entry)))) ⌝ }
+{
+    let mut found = false;
+    for j in 0..n {
+        let o = owners[j];
+        let k = endpoints[j];
+        found = found | ((index(o) == g) & (e.0 == k));
+    }
+    found
+}
+
+// Whether f, at a place that is in use or not, is a fault of guest g or zero.
+fn fault_good<'a>(
+    n: usize,
+    endpoints: &'a [u32],
+    owners: &'a [u8],
+    g: usize,
+    used: bool,
+    f: Fault,
+) -> bool
+    requires { ⌜ (n ≤ length (now owners)) × (n ≤ length (now endpoints)) ⌝ }
+    ensures { λ r. ⌜ r ≡ cond used (faultGood (endpointsAlone (pickBy g (take n (now (owners .entry))) (take n (now (endpoints .entry))))) f) (faultZero f) ⌝ }
+{
+    if used {
+        let e = f.endpoint;
+        return ((f.reason == 1) | (f.reason == 2))
+            & (((f.flags == 257) | (f.flags == 258)) & is_listed(n, endpoints, owners, g, e));
+    }
+    ((f.reason == 0) & (f.flags == 0)) & ((f.endpoint.0 == 0) & (f.address == 0))
+}
+
+// Whether each place for a fault is good, one by one.
+fn places_good<'a>(
+    n: usize,
+    endpoints: &'a [u32],
+    owners: &'a [u8],
+    logged: &'a [usize; 4],
+    reasons: &'a [u8; 64],
+    flags: &'a [u32; 64],
+    sources: &'a [u32; 64],
+    addresses: &'a [u64; 64],
+) -> bool
+    requires { ⌜ (n ≤ length (now owners)) × (n ≤ length (now endpoints)) ⌝ }
+    ensures { λ r. ⌜ r ≡ below faultPlaces (faultPlaceGood (configOf (faultsAlone n (now (endpoints .entry)) (now (owners .entry)) (now (logged .entry)) (now (reasons .entry)) (now (flags .entry)) (now (sources .entry)) (now (addresses .entry)))) (faultsAlone n (now (endpoints .entry)) (now (owners .entry)) (now (logged .entry)) (now (reasons .entry)) (now (flags .entry)) (now (sources .entry)) (now (addresses .entry)))) ⌝ }
+{
+    let mut ok = true;
+    for i in 0..64 {
+        let g = i / MAX_FAULTS;
+        let count = logged[g];
+        let e = sources[i];
+        let f = Fault {
+            reason: reasons[i],
+            flags: flags[i],
+            endpoint: Endpoint(e),
+            address: addresses[i],
+        };
+        ok = fault_good(n, endpoints, owners, g, i % MAX_FAULTS < count, f) & ok;
+    }
+    ok
+}
+
+// Whether each place for a fault is good.
+pub(crate) fn faults_good<'a>(
+    n: usize,
+    endpoints: &'a [u32],
+    owners: &'a [u8],
+    logged: &'a [usize; 4],
+    reasons: &'a [u8; 64],
+    flags: &'a [u32; 64],
+    sources: &'a [u32; 64],
+    addresses: &'a [u64; 64],
+) -> bool
+    requires { ⌜ (n ≤ length (now owners)) × (n ≤ length (now endpoints)) ⌝ }
+    ensures { λ r. ⌜ r ≡ below faultPlaces (faultPlaceGood (configOf (faultsAlone n (now (endpoints .entry)) (now (owners .entry)) (now (logged .entry)) (now (reasons .entry)) (now (flags .entry)) (now (sources .entry)) (now (addresses .entry)))) (faultsAlone n (now (endpoints .entry)) (now (owners .entry)) (now (logged .entry)) (now (reasons .entry)) (now (flags .entry)) (now (sources .entry)) (now (addresses .entry)))) ⌝ }
+{
+    if zero_usize(logged, 0) {
+        // No log has a fault.
+        return (zero_u8(reasons, 0) & zero_u32(flags, 0))
+            & (zero_u32(sources, 0) & table::zero_from(addresses, 0));
+    }
+    places_good(
+        n,
+        endpoints,
+        owners,
+        logged,
+        reasons,
+        flags,
+        sources,
+        addresses,
+    )
+}
