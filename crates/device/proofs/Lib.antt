@@ -1,0 +1,16 @@
+pub mod Shape
+pub mod Flat
+pub mod Places
+pub mod Written
+pub mod Logs
+pub mod Leaving
+pub mod Statuses
+pub mod Requested
+pub mod Turns
+pub mod Stepped
+pub mod Answered
+pub mod Mapped
+pub mod Decided
+pub mod Entries
+pub mod Cases
+pub mod Started
