@@ -1,0 +1,91 @@
+//! The configuration a set-up takes, and when it is good.
+
+use crate::numbers::{Endpoint, Guest};
+use std::ops::RangeInclusive;
+
+/// The most guests, endpoints and records there can be.
+pub const MOST_GUESTS: usize = 4;
+pub const MOST_ENDPOINTS: usize = 32;
+pub const MOST_RECORDS: u32 = 256;
+
+/// What one guest may hold: a number of records, and physical addresses in one window.
+#[derive(Clone, Debug, PartialEq, Eq)]
+pub struct GuestShare {
+    pub share: u16,
+    pub window: RangeInclusive<u64>,
+}
+
+/// One entry of the endpoint list with its entry of the owner list.
+#[derive(Clone, Copy, Debug, PartialEq, Eq)]
+pub struct ListedEndpoint {
+    pub endpoint: Endpoint,
+    pub owner: Guest,
+}
+
+#[derive(Clone, Debug, PartialEq, Eq)]
+pub struct Configuration {
+    pub guests: Vec<GuestShare>,
+    pub endpoints: Vec<ListedEndpoint>,
+    pub page_size_mask: u64,
+    pub input_range: RangeInclusive<u64>,
+    pub domain_range: RangeInclusive<u32>,
+}
+
+impl Configuration {
+    /// The configuration with every number zero, which a refused set-up leaves.
+    pub fn zeroed() -> Self {
+        Configuration {
+            guests: Vec::new(),
+            endpoints: Vec::new(),
+            page_size_mask: 0,
+            input_range: 0..=0,
+            domain_range: 0..=0,
+        }
+    }
+
+    /// Whether every condition on a configuration holds.
+    pub fn is_good(&self) -> bool {
+        (1..=MOST_GUESTS).contains(&self.guests.len())
+            && self.windows_are_good()
+            && self.shares_sum() <= MOST_RECORDS
+            && self.page_size_mask != 0
+            && self.input_range.start() <= self.input_range.end()
+            && self.domain_range.start() <= self.domain_range.end()
+            && self.endpoints_are_good()
+    }
+
+    /// The page granularity g: the lowest set bit of the mask, wide enough for sums up to 2^64.
+    pub fn granularity(&self) -> u128 {
+        1 << self.page_size_mask.trailing_zeros()
+    }
+
+    /// The records all guests together may hold.
+    pub fn shares_sum(&self) -> u32 {
+        self.guests.iter().map(|guest| u32::from(guest.share)).sum()
+    }
+
+    /// Each window has first <= last, and no two share an address.
+    fn windows_are_good(&self) -> bool {
+        let windows: Vec<_> = self.guests.iter().map(|guest| &guest.window).collect();
+        windows.iter().enumerate().all(|(place, window)| {
+            window.start() <= window.end()
+                && windows[..place].iter().all(|other| apart(window, other))
+        })
+    }
+
+    /// At most 32 endpoints, each listed once and owned by a guest in use.
+    fn endpoints_are_good(&self) -> bool {
+        let listed = &self.endpoints;
+        listed.len() <= MOST_ENDPOINTS
+            && listed.iter().enumerate().all(|(place, entry)| {
+                let earlier = &listed[..place];
+                entry.owner.place() < self.guests.len()
+                    && earlier.iter().all(|other| other.endpoint != entry.endpoint)
+            })
+    }
+}
+
+/// Whether two windows have no address in common.
+fn apart(one: &RangeInclusive<u64>, other: &RangeInclusive<u64>) -> bool {
+    one.end() < other.start() || other.end() < one.start()
+}

@@ -1,0 +1,85 @@
+//! Counts of the answers met, to show that the journals reach all of them.
+
+use crate::journal::LineKind;
+use crate::requests::{ATTACH, DETACH, MAP, UNMAP};
+use std::collections::BTreeMap;
+use std::fmt::{Display, Formatter, Result};
+
+/// The calls by the letter of their line, and the request types and statuses by name.
+const LETTERS: [&str; 5] = ["S", "R", "Z", "F", "A"];
+const REQUESTS: [(u8, &str); 4] =
+    [(ATTACH, "ATTACH"), (DETACH, "DETACH"), (MAP, "MAP"), (UNMAP, "UNMAP")];
+const STATUSES: [(u8, &str); 6] =
+    [(0, "OK"), (4, "INVAL"), (5, "RANGE"), (6, "NOENT"), (7, "FAULT"), (8, "NOMEM")];
+
+#[derive(Default)]
+pub struct Coverage {
+    /// How often each number came on a line of each letter.
+    numbers: BTreeMap<(String, u8), u64>,
+    /// How often each status came for each request type.
+    statuses: BTreeMap<(u8, u8), u64>,
+    fault_records: u64,
+    ends: u64,
+    bad_journals: u64,
+}
+
+impl Coverage {
+    /// Counts one line.
+    pub fn add(&mut self, kind: LineKind, text: &str) {
+        match kind {
+            LineKind::End => self.ends += 1,
+            LineKind::BadJournal => self.bad_journals += 1,
+            LineKind::FaultRecord => self.fault_records += 1,
+            _ => self.add_answer(kind, text),
+        }
+    }
+
+    /// The letter and number of a call's line, and the status of a handled request.
+    fn add_answer(&mut self, kind: LineKind, text: &str) {
+        let words: Vec<&str> = text.split(' ').collect();
+        let number = words[1].parse().expect("a call's line gives a number");
+        *self.numbers.entry((words[0].to_string(), number)).or_default() += 1;
+        if let (LineKind::Request(request_type), 0) = (kind, number) {
+            let status = words[3].parse().expect("a handled request has a status");
+            *self.statuses.entry((request_type, status)).or_default() += 1;
+        }
+    }
+
+    /// How often this number came on lines of this letter.
+    pub fn number(&self, letter: &str, number: u8) -> u64 {
+        self.numbers.get(&(letter.to_string(), number)).copied().unwrap_or(0)
+    }
+
+    /// How often this status came for this request type.
+    pub fn status(&self, request_type: u8, status: u8) -> u64 {
+        self.statuses.get(&(request_type, status)).copied().unwrap_or(0)
+    }
+
+    pub fn bad_journals(&self) -> u64 {
+        self.bad_journals
+    }
+}
+
+impl Display for Coverage {
+    fn fmt(&self, out: &mut Formatter) -> Result {
+        for letter in LETTERS {
+            write!(out, "{letter}")?;
+            let of_letter = self.numbers.iter().filter(|((of, _), _)| of == letter);
+            for ((_, number), count) in of_letter {
+                write!(out, "  {number}: {count}")?;
+            }
+            writeln!(out)?;
+        }
+        for (status, name) in STATUSES {
+            let counts = REQUESTS.map(|(of, request)| (request, self.status(of, status)));
+            let sum: u64 = counts.iter().map(|(_, count)| count).sum();
+            write!(out, "{name}  {sum} =")?;
+            for (request, count) in counts {
+                write!(out, "  {request} {count}")?;
+            }
+            writeln!(out)?;
+        }
+        writeln!(out, "fault records  {}", self.fault_records)?;
+        write!(out, "read to the end  {}, bad journals  {}", self.ends, self.bad_journals)
+    }
+}

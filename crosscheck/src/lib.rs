@@ -1,0 +1,22 @@
+//! A second program for the device side of virtio-iommu, written from document 01 alone,
+//! and the means to compare another program with it journal by journal.
+
+pub mod access;
+pub mod answers;
+pub mod compare;
+pub mod config;
+pub mod coverage;
+pub mod device;
+pub mod faults;
+pub mod fields;
+pub mod generate;
+pub mod journal;
+pub mod long_journal;
+pub mod numbers;
+pub mod player;
+pub mod program;
+pub mod random;
+pub mod record;
+pub mod requests;
+pub mod run;
+pub mod table;

@@ -1,0 +1,201 @@
+//! What each journal record does and prints.
+
+use crate::answers::Refusal;
+use crate::config::{Configuration, GuestShare, ListedEndpoint, MOST_ENDPOINTS, MOST_GUESTS};
+use crate::device::Device;
+use crate::faults::{Direction, FAULT_BYTES, LOG_PLACES};
+use crate::fields::Fields;
+use crate::journal::{self, Line, LineKind};
+use crate::numbers::{Endpoint, Guest};
+use crate::requests::WRITABLE_BYTES;
+use std::fmt::{Arguments, Write};
+use std::io;
+
+/// A journal under way: the set-up gathered so far, and the device from the start on.
+pub struct Player<P> {
+    guests: Vec<GuestShare>,
+    endpoints: Vec<ListedEndpoint>,
+    device: Option<Device>,
+    text: String,
+    print: P,
+}
+
+impl<P: FnMut(Line) -> io::Result<()>> Player<P> {
+    pub fn new(print: P) -> Self {
+        Player {
+            guests: Vec::new(),
+            endpoints: Vec::new(),
+            device: None,
+            text: String::new(),
+            print,
+        }
+    }
+
+    /// The device as the journal left it; without a start it has every number zero.
+    pub fn into_device(self) -> Device {
+        self.device.unwrap_or_else(Device::zeroed)
+    }
+
+    /// Prints one line.
+    pub fn say(&mut self, kind: LineKind, owner: Option<Guest>, text: Arguments) -> io::Result<()> {
+        self.text.clear();
+        self.text.write_fmt(text).expect("writing to a string");
+        (self.print)(Line { kind, owner, text: &self.text })
+    }
+
+    /// Does one whole record; false when it makes the journal bad, and then nothing is printed.
+    pub fn play(&mut self, kind: u8, body: &[u8]) -> io::Result<bool> {
+        let fields = Fields::new(body);
+        match kind {
+            journal::GUEST => Ok(self.guest(fields)),
+            journal::ENDPOINT => Ok(self.endpoint(fields)),
+            journal::START => self.start(fields),
+            journal::REQUEST_20 | journal::REQUEST_28 | journal::REQUEST_36 => self.request(fields),
+            journal::ACCESS => self.access(fields),
+            journal::RESET => self.reset(fields),
+            journal::FETCH => self.fetch(fields),
+            _ => Ok(false),
+        }
+    }
+
+    /// Share 2, window 8 + 8; bad after the start, and as a fifth guest.
+    fn guest(&mut self, mut fields: Fields) -> bool {
+        let taken = self.device.is_none() && self.guests.len() < MOST_GUESTS;
+        if taken {
+            let share = fields.u16();
+            let window = fields.u64()..=fields.u64();
+            self.guests.push(GuestShare { share, window });
+        }
+        taken
+    }
+
+    /// Number 4, owner 1; bad after the start, and as a 33rd endpoint.
+    fn endpoint(&mut self, mut fields: Fields) -> bool {
+        let taken = self.device.is_none() && self.endpoints.len() < MOST_ENDPOINTS;
+        if taken {
+            let endpoint = Endpoint(fields.u32());
+            let owner = Guest(fields.u8());
+            self.endpoints.push(ListedEndpoint { endpoint, owner });
+        }
+        taken
+    }
+
+    /// Mask 8, input range 8 + 8, domain range 4 + 4; a refused start is a start too.
+    fn start(&mut self, mut fields: Fields) -> io::Result<bool> {
+        if self.device.is_some() {
+            return Ok(false);
+        }
+        let set_up = Device::set_up(Configuration {
+            guests: std::mem::take(&mut self.guests),
+            endpoints: std::mem::take(&mut self.endpoints),
+            page_size_mask: fields.u64(),
+            input_range: fields.u64()..=fields.u64(),
+            domain_range: fields.u32()..=fields.u32(),
+        });
+        let number = number(&set_up);
+        self.device = Some(set_up.unwrap_or_else(|_| Device::zeroed()));
+        self.say(LineKind::Start, None, format_args!("S {number}"))?;
+        Ok(true)
+    }
+
+    /// Guest 1, then the request bytes.
+    fn request(&mut self, mut fields: Fields) -> io::Result<bool> {
+        let Some(device) = &mut self.device else {
+            return Ok(false);
+        };
+        let guest = Guest(fields.u8());
+        let readable = fields.rest();
+        let mut writable = [0; WRITABLE_BYTES];
+        let outcome = device.request(guest, readable, &mut writable);
+        let kind = LineKind::Request(readable[0]);
+        let owner = caller(guest, &outcome);
+        match outcome {
+            Ok(used) => self.say(kind, owner, format_args!("R 0 {used} {}", writable[0]))?,
+            Err(refusal) => self.say(kind, owner, format_args!("R {} 0 -", refusal.number()))?,
+        }
+        Ok(true)
+    }
+
+    /// Endpoint 4, address 8, 0 read or 1 write.
+    fn access(&mut self, mut fields: Fields) -> io::Result<bool> {
+        let Some(device) = &mut self.device else {
+            return Ok(false);
+        };
+        let endpoint = Endpoint(fields.u32());
+        let address = fields.u64();
+        let direction = match fields.u8() {
+            0 => Direction::Read,
+            1 => Direction::Write,
+            _ => return Ok(false),
+        };
+        let owner = device.owner(endpoint);
+        match device.access(endpoint, address, direction) {
+            Ok(landing) => self.say(LineKind::Access, owner, format_args!("A 0 {landing:016x}"))?,
+            Err(refusal) => {
+                self.say(LineKind::Access, owner, format_args!("A {}", refusal.number()))?
+            }
+        }
+        Ok(true)
+    }
+
+    /// Guest 1.
+    fn reset(&mut self, mut fields: Fields) -> io::Result<bool> {
+        let Some(device) = &mut self.device else {
+            return Ok(false);
+        };
+        let guest = Guest(fields.u8());
+        let outcome = device.reset(guest);
+        let owner = caller(guest, &outcome);
+        self.say(LineKind::Reset, owner, format_args!("Z {}", number(&outcome)))?;
+        Ok(true)
+    }
+
+    /// Guest 1, records asked 1 (0 to 16); the buffer holds exactly those asked.
+    fn fetch(&mut self, mut fields: Fields) -> io::Result<bool> {
+        let Some(device) = &mut self.device else {
+            return Ok(false);
+        };
+        let guest = Guest(fields.u8());
+        let asked = usize::from(fields.u8());
+        if asked > LOG_PLACES {
+            return Ok(false);
+        }
+        let mut places = [0; LOG_PLACES * FAULT_BYTES];
+        let buffer = &mut places[..asked * FAULT_BYTES];
+        let outcome = device.fetch(guest, buffer);
+        let owner = caller(guest, &outcome);
+        match outcome {
+            Ok(count) => self.fetched(owner, count, buffer)?,
+            Err(refusal) => {
+                self.say(LineKind::Fetch, owner, format_args!("F {}", refusal.number()))?
+            }
+        }
+        Ok(true)
+    }
+
+    /// The count of the fetched records, then each on a line of 48 hex digits.
+    fn fetched(&mut self, owner: Option<Guest>, count: usize, buffer: &[u8]) -> io::Result<()> {
+        self.say(LineKind::Fetch, owner, format_args!("F 0 {count}"))?;
+        for fault in buffer.chunks_exact(FAULT_BYTES).take(count) {
+            let halves = fault.iter().flat_map(|byte| [byte >> 4, byte & 15]);
+            let digits: String = halves.map(hex_digit).collect();
+            self.say(LineKind::FaultRecord, owner, format_args!("{digits}"))?;
+        }
+        Ok(())
+    }
+}
+
+/// The lowercase digit of a number below 16.
+fn hex_digit(half: u8) -> char {
+    char::from(b"0123456789abcdef"[usize::from(half)])
+}
+
+/// The number of an outcome: 0 when done.
+fn number<T>(outcome: &Result<T, Refusal>) -> u8 {
+    outcome.as_ref().err().map_or(0, |refusal| refusal.number())
+}
+
+/// Whose call it was; a call answered 1 is nobody's.
+fn caller<T>(guest: Guest, outcome: &Result<T, Refusal>) -> Option<Guest> {
+    (number(outcome) != Refusal::NoSuchGuest.number()).then_some(guest)
+}

@@ -1,0 +1,210 @@
+//! The four requests: their layouts and what each does, first failing step first.
+
+use crate::answers::{Refusal, Status};
+use crate::device::Device;
+use crate::faults::{READ, WRITE};
+use crate::fields::Fields;
+use crate::numbers::{Domain, Endpoint, Guest};
+use crate::table::Mapping;
+
+/// The request types.
+pub const ATTACH: u8 = 1;
+pub const DETACH: u8 = 2;
+pub const MAP: u8 = 3;
+pub const UNMAP: u8 = 4;
+
+/// The bytes of the head and of the writable part.
+const HEAD_BYTES: usize = 4;
+pub const WRITABLE_BYTES: usize = 4;
+
+/// The bytes of the readable part of a type, if it is one of the four.
+pub fn readable_bytes(request_type: u8) -> Option<usize> {
+    match request_type {
+        ATTACH | DETACH => Some(20),
+        MAP => Some(36),
+        UNMAP => Some(28),
+        _ => None,
+    }
+}
+
+/// The fields of ATTACH and DETACH.
+struct Attachment {
+    domain: Domain,
+    endpoint: Endpoint,
+    reserved: u64,
+}
+
+/// The fields of UNMAP.
+struct Unmapping {
+    domain: Domain,
+    virt_start: u64,
+    virt_end: u64,
+    reserved: u32,
+}
+
+impl Device {
+    /// Handles one request: writes its status and gives the used length.
+    pub fn request(
+        &mut self,
+        guest: Guest,
+        readable: &[u8],
+        writable: &mut [u8],
+    ) -> Result<usize, Refusal> {
+        self.check_guest(guest)?;
+        self.check_sound()?;
+        if readable.len() < HEAD_BYTES {
+            return Err(Refusal::WrongLength);
+        }
+        let length = readable_bytes(readable[0]).ok_or(Refusal::UnknownType)?;
+        if readable.len() != length || writable.len() != WRITABLE_BYTES {
+            return Err(Refusal::WrongLength);
+        }
+        let outcome = self.dispatch(guest, readable[0], Fields::new(&readable[HEAD_BYTES..]));
+        let status = outcome.err().unwrap_or(Status::Ok);
+        writable.copy_from_slice(&[status.byte(), 0, 0, 0]);
+        Ok(WRITABLE_BYTES)
+    }
+
+    /// Takes the fields of a request of known type and length, and does it.
+    fn dispatch(&mut self, guest: Guest, kind: u8, mut fields: Fields) -> Result<(), Status> {
+        let domain = Domain(fields.u32());
+        match kind {
+            ATTACH => self.attach(guest, attachment(domain, fields)),
+            DETACH => self.detach(guest, attachment(domain, fields)),
+            MAP => self.map(mapping(guest, domain, fields)),
+            _ => self.unmap(guest, unmapping(domain, fields)),
+        }
+    }
+
+    fn attach(&mut self, guest: Guest, request: Attachment) -> Result<(), Status> {
+        if request.reserved != 0 {
+            return Err(Status::Inval);
+        }
+        let place = self.own_endpoint(guest, request.endpoint)?;
+        if !self.configuration.domain_range.contains(&request.domain.0) {
+            return Err(Status::Range);
+        }
+        match self.attached[place] {
+            Some(domain) if domain == request.domain => return Ok(()),
+            Some(domain) => self.leave(guest, place, domain),
+            None => {}
+        }
+        self.attached[place] = Some(request.domain);
+        Ok(())
+    }
+
+    fn detach(&mut self, guest: Guest, request: Attachment) -> Result<(), Status> {
+        if request.reserved != 0 {
+            return Err(Status::Inval);
+        }
+        let place = self.own_endpoint(guest, request.endpoint)?;
+        if self.attached[place] != Some(request.domain) {
+            return Err(Status::Inval);
+        }
+        self.leave(guest, place, request.domain);
+        Ok(())
+    }
+
+    fn map(&mut self, mapping: Mapping) -> Result<(), Status> {
+        let Mapping { guest, domain, virt_start, virt_end, flags, .. } = mapping;
+        if !self.domain_exists(guest, domain) {
+            return Err(Status::Noent);
+        }
+        if flags & !(READ | WRITE) != 0 {
+            return Err(Status::Inval);
+        }
+        if !self.range_can_be_mapped(virt_start, virt_end) {
+            return Err(Status::Range);
+        }
+        if !self.lands_in_window(&mapping) {
+            return Err(Status::Fault);
+        }
+        if self.table.overlaps(guest, domain, &(virt_start..=virt_end)) {
+            return Err(Status::Inval);
+        }
+        let share = usize::from(self.configuration.guests[guest.place()].share);
+        if self.table.of_guest(guest).len() >= share {
+            return Err(Status::Nomem);
+        }
+        self.table.insert(mapping);
+        Ok(())
+    }
+
+    fn unmap(&mut self, guest: Guest, request: Unmapping) -> Result<(), Status> {
+        if !self.domain_exists(guest, request.domain) {
+            return Err(Status::Noent);
+        }
+        if request.reserved != 0 {
+            return Err(Status::Inval);
+        }
+        let range = request.virt_start..=request.virt_end;
+        if range.end() < range.start() || self.table.straddles(guest, request.domain, &range) {
+            return Err(Status::Range);
+        }
+        self.table.remove_inside(guest, request.domain, &range);
+        Ok(())
+    }
+
+    /// Steps 3 to 5 of MAP: more than one address, whole pages, inside the input range.
+    fn range_can_be_mapped(&self, virt_start: u64, virt_end: u64) -> bool {
+        let granularity = self.configuration.granularity();
+        let input = &self.configuration.input_range;
+        virt_start < virt_end
+            && u128::from(virt_start) % granularity == 0
+            && (u128::from(virt_end) + 1) % granularity == 0
+            && input.contains(&virt_start)
+            && input.contains(&virt_end)
+    }
+
+    /// Step 6 of MAP: first and last physical address lie in the guest's window, as whole
+    /// numbers, so a sum past 2^64 lies outside.
+    fn lands_in_window(&self, mapping: &Mapping) -> bool {
+        let window = &self.configuration.guests[mapping.guest.place()].window;
+        let window = u128::from(*window.start())..=u128::from(*window.end());
+        let first = u128::from(mapping.phys_start);
+        let last = first + u128::from(mapping.virt_end) - u128::from(mapping.virt_start);
+        window.contains(&first) && window.contains(&last)
+    }
+
+    /// The place of an endpoint of this guest; one of another guest looks like an unlisted one.
+    fn own_endpoint(&self, guest: Guest, endpoint: Endpoint) -> Result<usize, Status> {
+        let own = |place: &usize| self.configuration.endpoints[*place].owner == guest;
+        self.place_of(endpoint).filter(own).ok_or(Status::Noent)
+    }
+
+    /// A domain exists for a guest while at least one of its endpoints is attached to it.
+    fn domain_exists(&self, guest: Guest, domain: Domain) -> bool {
+        let mut listed = self.configuration.endpoints.iter().zip(&self.attached);
+        listed.any(|(entry, attached)| entry.owner == guest && *attached == Some(domain))
+    }
+
+    /// Detaches the endpoint at this place; the last one to leave takes the domain's records.
+    fn leave(&mut self, guest: Guest, place: usize, domain: Domain) {
+        self.attached[place] = None;
+        if !self.domain_exists(guest, domain) {
+            self.table.remove_domain(guest, domain);
+        }
+    }
+}
+
+/// Endpoint 4, reserved 8.
+fn attachment(domain: Domain, mut fields: Fields) -> Attachment {
+    Attachment { domain, endpoint: Endpoint(fields.u32()), reserved: fields.u64() }
+}
+
+/// virt_start 8, virt_end 8, phys_start 8, flags 4.
+fn mapping(guest: Guest, domain: Domain, mut fields: Fields) -> Mapping {
+    Mapping {
+        guest,
+        domain,
+        virt_start: fields.u64(),
+        virt_end: fields.u64(),
+        phys_start: fields.u64(),
+        flags: fields.u32(),
+    }
+}
+
+/// virt_start 8, virt_end 8, reserved 4.
+fn unmapping(domain: Domain, mut fields: Fields) -> Unmapping {
+    Unmapping { domain, virt_start: fields.u64(), virt_end: fields.u64(), reserved: fields.u32() }
+}

@@ -1,0 +1,167 @@
+//! The generator's journals: the same for the same seed, pairs that are pairs, every answer met.
+
+use crosscheck::compare::play;
+use crosscheck::coverage::Coverage;
+use crosscheck::generate::{case, Case};
+use crosscheck::journal;
+use crosscheck::long_journal::LongJournal;
+use crosscheck::numbers::Guest;
+use crosscheck::record::{journal_of, Record};
+use crosscheck::requests::{ATTACH, DETACH, MAP, UNMAP};
+use std::collections::HashMap;
+
+fn journals_of(case: Case) -> Vec<Vec<u8>> {
+    match case {
+        Case::Single(journal) => vec![journal],
+        Case::Pair { journals, .. } => journals.into(),
+    }
+}
+
+/// The record lengths of the journal's layout, kind byte included.
+fn record_length(kind: u8) -> usize {
+    match kind {
+        journal::GUEST => 19,
+        journal::ENDPOINT => 6,
+        journal::START => 33,
+        journal::REQUEST_20 => 22,
+        journal::REQUEST_28 => 30,
+        journal::REQUEST_36 => 38,
+        journal::ACCESS => 14,
+        journal::RESET => 2,
+        journal::FETCH => 3,
+        _ => panic!("kind {kind} in a sound journal"),
+    }
+}
+
+fn split(mut journal: &[u8]) -> Vec<&[u8]> {
+    let mut records = Vec::new();
+    while let Some(kind) = journal.first() {
+        let (record, rest) = journal.split_at(record_length(*kind));
+        records.push(record);
+        journal = rest;
+    }
+    records
+}
+
+/// The set-up records, and the guest's own calls and its endpoints' accesses, in order.
+fn set_up_and_own_calls(journal: &[u8], guest: Guest) -> (Vec<&[u8]>, Vec<&[u8]>) {
+    let mut owners: HashMap<&[u8], u8> = HashMap::new();
+    let (mut set_up, mut own) = (Vec::new(), Vec::new());
+    for record in split(journal) {
+        let caller = match record[0] {
+            journal::GUEST | journal::ENDPOINT | journal::START => {
+                if record[0] == journal::ENDPOINT {
+                    owners.insert(&record[1..5], record[5]);
+                }
+                set_up.push(record);
+                continue;
+            }
+            journal::ACCESS => owners.get(&record[1..5]).copied(),
+            _ => Some(record[1]),
+        };
+        if caller == Some(guest.0) {
+            own.push(record);
+        }
+    }
+    (set_up, own)
+}
+
+#[test]
+fn a_seed_and_an_index_make_one_case() {
+    for index in 0..200 {
+        assert_eq!(journals_of(case(5, index)), journals_of(case(5, index)));
+    }
+    let of_seed = |seed| (0..200).map(|index| journals_of(case(seed, index))).collect::<Vec<_>>();
+    assert_ne!(of_seed(5), of_seed(6));
+}
+
+#[test]
+fn pairs_share_the_set_up_and_one_guests_calls() {
+    let (mut pairs, mut different, mut calls) = (0, 0, 0);
+    for index in 0..1600 {
+        let Case::Pair { guest, journals } = case(7, index) else {
+            continue;
+        };
+        let first = set_up_and_own_calls(&journals[0], guest);
+        let second = set_up_and_own_calls(&journals[1], guest);
+        assert_eq!(first, second, "case {index}");
+        assert_eq!(play(&journals[0]).texts()[0], "S 0");
+        pairs += 1;
+        different += usize::from(journals[0] != journals[1]);
+        calls += first.1.len();
+    }
+    assert!((150..=250).contains(&pairs), "one case in eight is a pair, not {pairs} of 1600");
+    assert!(different * 10 >= pairs * 9, "{different} of {pairs} pairs differ");
+    assert!(calls >= 10 * pairs, "{calls} own calls in {pairs} pairs");
+}
+
+/// A guest's lines and holdings do not depend on the others' calls.
+#[test]
+fn pairs_agree_in_the_second_program() {
+    for index in 0..1600 {
+        let Case::Pair { guest, journals } = case(8, index) else {
+            continue;
+        };
+        let [first, second] = journals.map(|journal| play(&journal));
+        let (one, other) = (first.output(), second.output());
+        assert_eq!(first.own(guest, &one), second.own(guest, &other), "case {index}");
+        assert_eq!(first.device.holdings(guest), second.device.holdings(guest), "case {index}");
+    }
+}
+
+/// Every number and every status that a journal can reach comes at least fifty times.
+#[test]
+fn every_answer_is_met_often() {
+    let mut coverage = Coverage::default();
+    for index in 0..2000 {
+        for journal in journals_of(case(9, index)) {
+            for line in play(&journal).lines {
+                coverage.add(line.kind, &line.text);
+            }
+        }
+    }
+    let numbers: [(&str, &[u8]); 5] = [
+        ("S", &[0, 5]),
+        ("R", &[0, 1, 3, 4]),
+        ("Z", &[0, 1]),
+        ("F", &[0, 1]),
+        ("A", &[0, 2, 6, 7, 8]),
+    ];
+    for (letter, numbers) in numbers {
+        for &number in numbers {
+            let count = coverage.number(letter, number);
+            assert!(count >= 50, "{letter} {number} came {count} times");
+        }
+    }
+    let statuses: [(u8, &[u8]); 4] = [
+        (ATTACH, &[0, 4, 5, 6]),
+        (DETACH, &[0, 4, 6]),
+        (MAP, &[0, 4, 5, 6, 7, 8]),
+        (UNMAP, &[0, 4, 5, 6]),
+    ];
+    for (request_type, statuses) in statuses {
+        for &status in statuses {
+            let count = coverage.status(request_type, status);
+            assert!(count >= 50, "type {request_type} was answered {status} {count} times");
+        }
+    }
+    assert!(coverage.bad_journals() >= 50, "{} bad journals", coverage.bad_journals());
+}
+
+/// A long journal is read to its end, and has about as many live records as were asked for.
+#[test]
+fn long_journals_are_sound_and_keep_their_live_records() {
+    for live in [0, 16, 256] {
+        let records: Vec<Record> = LongJournal::new(live, 3).take(30_000).collect();
+        let again: Vec<Record> = LongJournal::new(live, 3).take(30_000).collect();
+        assert_eq!(records, again);
+        let played = play(&journal_of(&records));
+        assert_eq!(played.texts().first(), Some(&"S 0"));
+        assert_eq!(played.texts().last(), Some(&"E"));
+        let held = |guest| played.device.holdings(Guest(guest)).mappings.len();
+        let held: usize = (0..4).map(held).sum();
+        assert!(held.abs_diff(live as usize) <= 1 + live as usize / 4, "{held} for {live}");
+        let hits = played.texts().iter().filter(|text| text.starts_with("A 0 ")).count();
+        assert_eq!(hits > 5000, live > 0, "{hits} hits with {live} live records");
+    }
+}
