@@ -2,12 +2,12 @@
 ghost use mathlib.Core.Path.{_≡_};
 ghost use mathlib.Core.List.{[]};
 ghost use Rattle.rules.specs.Device.{step, access-by, fetch-for};
-ghost use Rattle.device.specs.Flat.{device};
-ghost use Rattle.device.specs.Checked.{replied};
+ghost use Rattle.effects.specs.Flat.{device};
+ghost use Rattle.effects.specs.Checked.{replied};
 use crate::accesses;
 use crate::checks;
 use crate::fetching;
-use crate::given::Given;
+use effects::Given;
 use rules::Answer;
 use rules::Endpoint;
 use rules::Guest;

@@ -3,8 +3,8 @@ ghost use mathlib.Core.Path.{_≡_};
 ghost use Prim.Native.Nat.{ℕ, _≤_};
 ghost use Rattle.rules.specs.Configuration.{last};
 ghost use Rattle.rules.specs.Sound.{sound};
-ghost use Rattle.device.specs.Flat.{device};
-ghost use Rattle.device.specs.Checked.{Shaped};
+ghost use Rattle.effects.specs.Flat.{device};
+ghost use Rattle.effects.specs.Checked.{Shaped};
 use rules::State;
 
 // Whether state and table are sound; and, for whoever calls, what the types of the state's arrays fix.

@@ -2,7 +2,7 @@
 ghost use mathlib.Core.Path.{_≡_};
 ghost use Prim.Native.Nat.{_*_, _<_, _≤_};
 ghost use lib.ListN.{length};
-ghost use Rattle.device.specs.Flat.{fetchCount, fetchBytes};
+ghost use Rattle.effects.specs.Flat.{fetchCount, fetchBytes};
 use rules::Endpoint;
 use rules::Fault;
 use rules::Guest;

@@ -2,11 +2,10 @@
 ghost use mathlib.Core.Path.{_≡_};
 ghost use mathlib.Core.List.{[]};
 ghost use Rattle.rules.specs.Device.{step, reset-of};
-ghost use Rattle.device.specs.Flat.{device};
-ghost use Rattle.device.specs.Checked.{replied};
+ghost use Rattle.effects.specs.Flat.{device};
+ghost use Rattle.effects.specs.Checked.{replied};
 use crate::checks;
-use crate::endpoints;
-use crate::given::Given;
+use effects::Given;
 use rules::Answer;
 use rules::Guest;
 use rules::State;

@@ -9,10 +9,11 @@ use lib.Dec.{leb, ltb, eqb}
 use lib.ListN.{length, getD, take, length-take}
 use borrow.Author.Tests.{lt-ltb, leb-true, not-true, eqb-true, eqb-false}
 use Rattle.laws.specs.Lists.{all?, every?, pairwise, below, firstFailing}
-use Rattle.laws.proofs.Tests.{both-right, true-false, opened, cleared}
+use Rattle.laws.proofs.Tests.{Each, both-left, both-right, true-false, opened, closed, cleared}
 use Rattle.laws.proofs.Owners.{owner-among}
 use Rattle.rules.specs.declared.Settings.{Settings}
 use Rattle.rules.specs.declared.Mapping.{Mapping}
+use Rattle.rules.specs.Sizes.{maxEndpoints, maxRecords, tableWords}
 use Rattle.rules.specs.Configuration.{share, goodSettings, goodLists, good, settingsTests, listTests}
 use Rattle.rules.specs.Table.{records, guestOf, domainOf, before}
 use Rattle.rules.specs.State.{Device, configOf, read}
@@ -23,7 +24,7 @@ use Rattle.rules.specs.Sound.{guest, passes, recordGood, soundTests, sound}
 use Rattle.rules.proofs.Records.{wide, apart}
 use Rattle.rules.proofs.Parts.{passes-none, form-wide}
 use Rattle.table.specs.Records.{noMapping}
-use Rattle.soundness.specs.Pieces.{limits}
+use Rattle.soundness.specs.Pieces.{limits, frameTests, framed}
 use Rattle.soundness.specs.Scan.{formGood, ownGood, domainGood, scan, sharesKept}
 use Rattle.soundness.proofs.Order.{scan-is}
 
@@ -41,13 +42,51 @@ pub refused : (d : Device) (k : ℕ) → getD (soundTests (configOf (d .state)) 
 unfolding sound
 refused d k h = failing (soundTests (configOf (d .state)) (read d) d) k h
 
-pub settings-refused : (d : Device) → goodSettings (d .state .settings) ≡ false → sound d ≡ false
-unfolding good configOf
-settings-refused d h = refused d 1 (rw h)
+pub either-refused : (d : Device) (j k : ℕ) → (getD (soundTests (configOf (d .state)) (read d) d) j true && getD (soundTests (configOf (d .state)) (read d) d) k true) ≡ false → sound d ≡ false
+either-refused d j k h = go (getD (soundTests (configOf (d .state)) (read d) d) j true) refl h
+  where
+    go : (b : Bool) → getD (soundTests (configOf (d .state)) (read d) d) j true ≡ b → (b && getD (soundTests (configOf (d .state)) (read d) d) k true) ≡ false → sound d ≡ false
+    go true e h = refused d k h
+    go false e h = refused d j e
 
-pub lists-refused : (d : Device) → goodLists (d .state .settings) (take (d .state .listed) (d .state .endpoints)) (take (d .state .listed) (d .state .owners)) ≡ false → sound d ≡ false
-unfolding good configOf
-lists-refused d h = refused d 1 (rw h (and-false (goodSettings (d .state .settings))))
+pub both-passed : (d : Device) (j k : ℕ) → (getD (soundTests (configOf (d .state)) (read d) d) j true && getD (soundTests (configOf (d .state)) (read d) d) k true) ≡ true → Passed d j × Passed d k
+both-passed d j k h =
+    let l = soundTests (configOf (d .state)) (read d) d in
+    (both-left (getD l j true) (getD l k true) h, both-right (getD l j true) (getD l k true) h)
+
+-- the tests that come before all others
+module _ (s : Settings) (n m : ℕ) (es os ws : List ℕ) where
+  pub unframed : (k : ℕ) → getD (frameTests s n m es os ws) k true ≡ false → framed s n m es os ws ≡ false
+  unfolding framed
+  unframed k h = failing (frameTests s n m es os ws) k h
+
+  pub in-frame : framed s n m es os ws ≡ true → Each (frameTests s n m es os ws)
+  unfolding framed
+  in-frame h = opened (frameTests s n m es os ws) h
+
+  -- the endpoints of a good configuration have places
+  pub listed-fits : framed s n m es os ws ≡ true → n ≤ 32
+  unfolding goodLists
+  listed-fits h =
+      let t = in-frame h in
+      omega (arith, eqb-true (length (take n es)) n (t .1 .1 .0), leb-true (length (take n es)) maxEndpoints (opened (listTests s (take n es) (take n os)) (t .1 .1 .1 .1 .0) .1 .0))
+
+  pub frame-last : eqb (length ws) tableWords ≡ true → leb m maxRecords ≡ true → eqb (length (take n es)) n ≡ true → goodSettings s ≡ true → goodLists s (take n es) (take n os) ≡ framed s n m es os ws
+  unfolding framed
+  frame-last a b c d = rw (a, b, c, d) (sym (and-true (goodLists s (take n es) (take n os))))
+
+pub frame-refused : (d : Device) → framed (d .state .settings) (d .state .listed) (d .state .live) (d .state .endpoints) (d .state .owners) (d .table) ≡ false → sound d ≡ false
+unfolding sound framed good configOf
+frame-refused d h = go (sound d) refl
+  where
+    go : (b : Bool) → sound d ≡ b → b ≡ false
+    go true e =
+        let t = opened (soundTests (configOf (d .state)) (read d) d) e in
+        let frame = frameTests (d .state .settings) (d .state .listed) (d .state .live) (d .state .endpoints) (d .state .owners) (d .table) in
+        let g = goodSettings (d .state .settings) in
+        let l = goodLists (d .state .settings) (take (d .state .listed) (d .state .endpoints)) (take (d .state .listed) (d .state .owners)) in
+        true-false (every? frame) (closed frame (t .0, (t .1 .1 .1 .0, (t .1 .1 .0, (both-left g l (t .1 .0), (both-right g l (t .1 .0), tt)))))) h
+    go false e = refl
 
 -- as many endpoints as the state counts
 pub listed-within : (n : ℕ) (l : List ℕ) → eqb (length (take n l)) n ≡ true → n ≤ length l

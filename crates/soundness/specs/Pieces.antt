@@ -1,13 +1,16 @@
 -- The device that the pieces make up which the test of soundness is handed, and the pieces that one part of the test looks at.
 use Prim.Native.Nat.{ℕ}
-use mathlib.Core.List.{List, []}
-use lib.ListN.{getD, take}
-use Rattle.laws.specs.Lists.{tab, pickBy}
+use mathlib.Core.Bool.{Bool}
+use mathlib.Core.List.{List, [], _∷_}
+use lib.Dec.{leb, eqb}
+use lib.ListN.{length, getD, take}
+use Rattle.laws.specs.Lists.{every?, tab, pickBy}
+use Rattle.rules.specs.Sizes.{maxRecords, tableWords}
 use Rattle.rules.specs.declared.DomainRange.{DomainRange}
 use Rattle.rules.specs.declared.InputRange.{InputRange}
 use Rattle.rules.specs.declared.Settings.{Settings}
 use Rattle.rules.specs.declared.State.{State}
-use Rattle.rules.specs.Configuration.{Config}
+use Rattle.rules.specs.Configuration.{Config, goodSettings, goodLists}
 use Rattle.rules.specs.State.{Attachment, Device, attachment, zeroState}
 use Rattle.rules.specs.Guests.{Own}
 use Rattle.rules.specs.Sound.{guest}
@@ -35,6 +38,19 @@ stateWith settings listed live endpoints owners attached domains logged lost rea
 abbrev pub deviceOf : Settings → ℕ → ℕ → List ℕ → List ℕ → List ℕ → List ℕ → List ℕ → List ℕ → List ℕ → List ℕ → List ℕ → List ℕ → List ℕ → Device
 deviceOf settings listed live endpoints owners attached domains logged lost reasons flags sources addresses table =
     record { state = stateWith settings listed live endpoints owners attached domains logged lost reasons flags sources addresses; table = table }
+
+-- the tests that come before all others: lengths and counts, then the configuration
+abbrev pub frameTests : Settings → ℕ → ℕ → List ℕ → List ℕ → List ℕ → List Bool
+frameTests settings listed live endpoints owners table =
+    eqb (length table) tableWords
+    ∷ leb live maxRecords
+    ∷ eqb (length (take listed endpoints)) listed
+    ∷ goodSettings settings
+    ∷ goodLists settings (take listed endpoints) (take listed owners)
+    ∷ []
+
+unfoldable pub framed : Settings → ℕ → ℕ → List ℕ → List ℕ → List ℕ → Bool
+framed settings listed live endpoints owners table = every? (frameTests settings listed live endpoints owners table)
 
 -- a state without faults: what the test of unused places looks at
 abbrev pub withoutFaults : Settings → ℕ → List ℕ → List ℕ → List ℕ → List ℕ → List ℕ → List ℕ → State

@@ -8,11 +8,10 @@ ghost use mathlib.Core.Path.{_≡_};
 ghost use lib.Dec.{eqb};
 ghost use lib.ListN.{length, take};
 ghost use Rattle.rules.specs.Sound.{sound};
-ghost use Rattle.soundness.specs.Pieces.{deviceOf};
+ghost use Rattle.soundness.specs.Pieces.{framed, deviceOf};
 use attachments::attachments_good;
-use logs::counts_within;
+use logs::counts_good;
 use logs::faults_good;
-use logs::lost_within;
 use records::records_good;
 use rules::Settings;
 use state::configuration::good_lists;
@@ -35,6 +34,32 @@ fn has_places(endpoints: &[u32], n: usize) -> bool
     n <= endpoints.len()
 }
 
+// Whether the table has its length, the records and the endpoints have places, and the configuration is good.
+fn frame_good<'a>(
+    settings: Settings,
+    listed: usize,
+    live: usize,
+    endpoints: &'a [u32; 32],
+    owners: &'a [u8; 32],
+    t: &'a [u64],
+) -> bool
+    ensures { λ r. ⌜ r ≡ framed settings listed live (now (endpoints .entry)) (now (owners .entry)) (now (t .entry)) ⌝ }
+{
+    if t.len() != TABLE_WORDS {
+        return false;
+    }
+    if live > MAX_RECORDS {
+        return false;
+    }
+    if !has_places(endpoints, listed) {
+        return false;
+    }
+    if !good_settings(settings) {
+        return false;
+    }
+    good_lists(settings, listed, endpoints, owners)
+}
+
 // Whether the state that these pieces make up, and the table, are sound.
 pub fn is_sound<'a>(
     settings: Settings,
@@ -54,19 +79,7 @@ pub fn is_sound<'a>(
 ) -> bool
     ensures { λ r. ⌜ r ≡ sound (deviceOf settings listed live (now (endpoints .entry)) (now (owners .entry)) (now (attached .entry)) (now (domains .entry)) (now (logged .entry)) (now (lost .entry)) (now (reasons .entry)) (now (flags .entry)) (now (sources .entry)) (now (addresses .entry)) (now (t .entry))) ⌝ }
 {
-    if t.len() != TABLE_WORDS {
-        return false;
-    }
-    if live > MAX_RECORDS {
-        return false;
-    }
-    if !has_places(endpoints, listed) {
-        return false;
-    }
-    if !good_settings(settings) {
-        return false;
-    }
-    if !good_lists(settings, listed, endpoints, owners) {
+    if !frame_good(settings, listed, live, endpoints, owners, t) {
         return false;
     }
     if !unused_zero(
@@ -84,11 +97,7 @@ pub fn is_sound<'a>(
     if !attachments_good(settings.domains, listed, attached, domains) {
         return false;
     }
-    let guests = settings.guests;
-    if !counts_within(guests, logged) {
-        return false;
-    }
-    if !lost_within(guests, lost) {
+    if !counts_good(settings.guests, logged, lost) {
         return false;
     }
     if !faults_good(

@@ -1,6 +1,6 @@
 // The guests' fault logs.
 ghost use mathlib.Core.Path.{_≡_};
-ghost use mathlib.Core.Bool.{cond};
+ghost use mathlib.Core.Bool.{cond, _&&_};
 ghost use Prim.Native.Nat.{_≤_, _<_};
 ghost use lib.Dec.{leb};
 ghost use lib.ListN.{length, getD, take};
@@ -27,7 +27,7 @@ pub(crate) fn index(x: u8) -> usize
 }
 
 // Whether the log counts of the first n guests are at most 16.
-pub(crate) fn counts_within(n: usize, logged: &[usize; 4]) -> bool
+fn counts_within(n: usize, logged: &[usize; 4]) -> bool
     requires { ⌜ n ≤ 4 ⌝ }
     ensures { λ r. ⌜ r ≡ below n (λ g. leb (getD (now (logged .entry)) g 0) maxFaults) ⌝ }
 {
@@ -40,7 +40,7 @@ pub(crate) fn counts_within(n: usize, logged: &[usize; 4]) -> bool
 }
 
 // Whether their lost counts are at most 65,535.
-pub(crate) fn lost_within(n: usize, lost: &[u32; 4]) -> bool
+fn lost_within(n: usize, lost: &[u32; 4]) -> bool
     requires { ⌜ n ≤ 4 ⌝ }
     ensures { λ r. ⌜ r ≡ below n (λ g. leb (getD (now (lost .entry)) g 0) maxLost) ⌝ }
 {
@@ -50,6 +50,16 @@ pub(crate) fn lost_within(n: usize, lost: &[u32; 4]) -> bool
         ok = (count <= 65535) & ok;
     }
     ok
+}
+
+// Whether the log counts and the lost counts are within these.
+pub(crate) fn counts_good<'a>(n: usize, logged: &'a [usize; 4], lost: &'a [u32; 4]) -> bool
+    requires { ⌜ n ≤ 4 ⌝ }
+    ensures { λ r. ⌜ r ≡ (below n (λ g. leb (getD (now (logged .entry)) g 0) maxFaults) && below n (λ g. leb (getD (now (lost .entry)) g 0) maxLost)) ⌝ }
+{
+    let held = counts_within(n, logged);
+    let dropped = lost_within(n, lost);
+    held & dropped
 }
 
 // Whether e is an endpoint of guest g, among the first n endpoints.

@@ -1,10 +1,9 @@
-// The lengths of a request's two parts, for the hypervisor to ask before it gathers a buffer.
+// The lengths of a request's two parts.
 ghost use mathlib.Core.Path.{_≡_};
 ghost use Rattle.rules.specs.Requests.{readableLength, writableLength};
 
 // The number of bytes that a request of this type has in its readable part.
-#[no_mangle]
-pub extern "C" fn viommu_readable_length(kind: u8) -> usize
+pub fn readable_length(kind: u8) -> usize
     ensures { λ r. ⌜ r ≡ readableLength kind ⌝ }
 {
     match kind {
@@ -17,8 +16,7 @@ pub extern "C" fn viommu_readable_length(kind: u8) -> usize
 }
 
 // The number of bytes that a request of this type has in its writable part.
-#[no_mangle]
-pub extern "C" fn viommu_writable_length(kind: u8) -> usize
+pub fn writable_length(kind: u8) -> usize
     ensures { λ r. ⌜ r ≡ writableLength kind ⌝ }
 {
     match kind {

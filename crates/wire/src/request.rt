@@ -1,8 +1,7 @@
 // A request taken apart.
 use crate::fields::number_at;
 use crate::fields::u32_at;
-use crate::lengths::viommu_readable_length;
-use crate::lengths::viommu_writable_length;
+use crate::lengths;
 use rules::Answer;
 use rules::Domain;
 use rules::Endpoint;
@@ -118,8 +117,8 @@ pub fn parse(readable: &[u8], writable: usize) -> Request
     let kind = readable[0];
     match kind {
         1..=4 => {
-            let readable_length = viommu_readable_length(kind);
-            let writable_length = viommu_writable_length(kind);
+            let readable_length = lengths::readable_length(kind);
+            let writable_length = lengths::writable_length(kind);
             if (readable.len() == readable_length) & (writable == writable_length) {
                 taken_apart(readable, kind)
             } else {

@@ -2,7 +2,7 @@
 use borrow.Author.Needs.{needs}
 use lib.ListN.{take}
 use Rattle.rules.specs.Table.{records}
-use Rattle.device.proofs.Decided.{decides-unknown, decides-unattached, decides-answer}
+use Rattle.effects.proofs.Decided.{decides-unknown, decides-unattached, decides-answer}
 use Rattle.device.proofs.accesses.decide.Statement.{statement}
 use Rattle.device.proofs.accesses.decide.Tie as tie
 

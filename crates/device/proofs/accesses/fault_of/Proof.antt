@@ -1,5 +1,5 @@
 -- `device::accesses::fault_of` meets its contract. Assumes nothing.
-use Rattle.device.proofs.Decided.{fault-read, fault-write}
+use Rattle.effects.proofs.Decided.{fault-read, fault-write}
 use Rattle.device.proofs.accesses.fault_of.Statement.{statement}
 use Rattle.device.proofs.accesses.fault_of.Tie as tie
 

@@ -1,6 +1,6 @@
 -- `device::accesses::log_blocked` meets its contract. Assumes nothing.
 use borrow.Author.Needs.{needs}
-use Rattle.device.proofs.Decided.{logs-nothing, logs-fault}
+use Rattle.effects.proofs.Decided.{logs-nothing, logs-fault}
 use Rattle.device.proofs.accesses.log_blocked.Statement.{statement}
 use Rattle.device.proofs.accesses.log_blocked.Tie as tie
 

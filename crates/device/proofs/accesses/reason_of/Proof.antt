@@ -1,6 +1,6 @@
 -- `device::accesses::reason_of` meets its contract. Assumes nothing.
 use borrow.Author.Needs.{needs}
-use Rattle.device.proofs.Decided.{no-reason}
+use Rattle.effects.proofs.Decided.{no-reason}
 use Rattle.device.proofs.accesses.reason_of.Statement.{statement}
 use Rattle.device.proofs.accesses.reason_of.Tie as tie
 

@@ -4,7 +4,7 @@ use borrow.Author.Needs.{needs}
 use lib.ListN.{take}
 use Rattle.rules.specs.Table.{records}
 use Rattle.rules.specs.Access.{lookup}
-use Rattle.device.proofs.Decided.{starts-before, found-record, answers-through, answers-unmapped}
+use Rattle.effects.proofs.Decided.{starts-before, found-record, answers-through, answers-unmapped}
 use Rattle.device.proofs.accesses.translate.Statement.{statement}
 use Rattle.device.proofs.accesses.translate.Tie as tie
 

@@ -3,7 +3,7 @@ use native.Mathlib.Omega.{arith}
 use borrow.Author.Needs.{needs}
 use borrow.Author.Tests.{not-false}
 use mathlib.Core.Path.{sym, _∙_}
-use Rattle.device.proofs.Entries.{access-unsound, access-works, listed-fits, lands-fit}
+use Rattle.effects.proofs.Entries.{access-unsound, access-works, listed-fits, lands-fit}
 use Rattle.device.proofs.calls.access.Statement.{statement}
 use Rattle.device.proofs.calls.access.Tie as tie
 

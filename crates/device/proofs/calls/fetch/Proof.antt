@@ -3,7 +3,7 @@ use native.Mathlib.Omega.{arith}
 use borrow.Author.Needs.{needs}
 use borrow.Author.Tests.{not-false}
 use mathlib.Core.Path.{sym, _∙_}
-use Rattle.device.proofs.Entries.{fetch-no-guest, fetch-unsound, fetch-works, few-guests, count-fits}
+use Rattle.effects.proofs.Entries.{fetch-no-guest, fetch-unsound, fetch-works, few-guests, count-fits}
 use Rattle.device.proofs.calls.fetch.Statement.{statement}
 use Rattle.device.proofs.calls.fetch.Tie as tie
 

@@ -7,7 +7,7 @@ use mir.Val.{Fits}
 use Rattle.rules.specs.Configuration.{last}
 use lib.ListN.{length}
 use borrow.Author.Needs.{needs}
-use Rattle.device.specs.Checked.{Shaped}
+use Rattle.effects.specs.Checked.{Shaped}
 use Rattle.device.proofs.checks.is_sound.Statement.{statement}
 use Rattle.device.proofs.checks.is_sound.Tie as tie
 

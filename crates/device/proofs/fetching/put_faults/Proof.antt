@@ -6,7 +6,7 @@ use Prim.Native.Nat.{_≤_, _+_, _-_, _*_}
 use mathlib.Core.Path.{_≡_, refl}
 use lib.ListN.{length}
 use Rattle.rules.specs.State.{faultAt}
-use Rattle.device.proofs.Decided.{written, written-none, written-next, written-all}
+use Rattle.effects.proofs.Decided.{written, written-none, written-next, written-all}
 use Rattle.device.proofs.fetching.put_faults.Statement.{statement}
 use Rattle.device.proofs.fetching.put_faults.Tie as tie
 

@@ -1,6 +1,6 @@
 -- `device::mappings::form_status` meets its contract. Assumes nothing.
 use borrow.Author.Needs.{needs}
-use Rattle.device.proofs.Mapped.{form-flags, form-order, form-rest}
+use Rattle.effects.proofs.Mapped.{form-flags, form-order, form-rest}
 use Rattle.device.proofs.mappings.form_status.Statement.{statement}
 use Rattle.device.proofs.mappings.form_status.Tie as tie
 

@@ -1,6 +1,6 @@
 -- `device::mappings::leaves_window` meets its contract. Assumes nothing.
 use borrow.Author.Needs.{needs}
-use Rattle.device.proofs.Mapped.{window-past, window-end}
+use Rattle.effects.proofs.Mapped.{window-past, window-end}
 use Rattle.device.proofs.mappings.leaves_window.Statement.{statement}
 use Rattle.device.proofs.mappings.leaves_window.Tie as tie
 

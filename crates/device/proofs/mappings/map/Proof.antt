@@ -1,6 +1,6 @@
 -- `device::mappings::map` meets its contract. Assumes nothing.
 use borrow.Author.Needs.{needs}
-use Rattle.device.proofs.Mapped.{map-refused, map-done}
+use Rattle.effects.proofs.Mapped.{map-refused, map-done}
 use Rattle.device.proofs.mappings.map.Statement.{statement}
 use Rattle.device.proofs.mappings.map.Tie as tie
 

@@ -1,7 +1,7 @@
 -- `device::mappings::map_status` meets its contract. Assumes nothing.
 use borrow.Author.Needs.{needs}
-use Rattle.device.specs.Flat.{existsFlat}
-use Rattle.device.proofs.Mapped.{map-steps}
+use Rattle.effects.specs.Flat.{existsFlat}
+use Rattle.effects.proofs.Mapped.{map-steps}
 use Rattle.device.proofs.mappings.map_status.Statement.{statement}
 use Rattle.device.proofs.mappings.map_status.Tie as tie
 

@@ -1,6 +1,6 @@
 -- `device::mappings::unmap` meets its contract. Assumes nothing.
 use borrow.Author.Needs.{needs}
-use Rattle.device.proofs.Mapped.{unmap-refused, unmap-done}
+use Rattle.effects.proofs.Mapped.{unmap-refused, unmap-done}
 use Rattle.device.proofs.mappings.unmap.Statement.{statement}
 use Rattle.device.proofs.mappings.unmap.Tie as tie
 

@@ -1,7 +1,7 @@
 -- `device::mappings::unmap_status` meets its contract. Assumes nothing.
 use borrow.Author.Needs.{needs}
-use Rattle.device.specs.Flat.{existsFlat}
-use Rattle.device.proofs.Mapped.{unmap-steps}
+use Rattle.effects.specs.Flat.{existsFlat}
+use Rattle.effects.proofs.Mapped.{unmap-steps}
 use Rattle.device.proofs.mappings.unmap_status.Statement.{statement}
 use Rattle.device.proofs.mappings.unmap_status.Tie as tie
 

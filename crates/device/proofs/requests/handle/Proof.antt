@@ -1,8 +1,8 @@
 -- `device::requests::handle` meets its contract. Assumes nothing.
 use borrow.Author.Needs.{needs}
-use Rattle.device.specs.Flat.{device}
-use Rattle.device.specs.Outcome.{outcome}
-use Rattle.device.proofs.Cases.{handled-refused, handled-attach, handled-detach, handled-map, handled-unmap}
+use Rattle.effects.specs.Flat.{device}
+use Rattle.effects.specs.Outcome.{outcome}
+use Rattle.effects.proofs.Cases.{handled-refused, handled-attach, handled-detach, handled-map, handled-unmap}
 use Rattle.device.proofs.requests.handle.Statement.{statement}
 use Rattle.device.proofs.requests.handle.Tie as tie
 

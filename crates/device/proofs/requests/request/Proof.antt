@@ -1,6 +1,6 @@
 -- `device::requests::request` meets its contract. Assumes nothing.
 use borrow.Author.Needs.{needs}
-use Rattle.device.proofs.Entries.{request-no-guest, request-unsound, serve-ready}
+use Rattle.effects.proofs.Entries.{request-no-guest, request-unsound, serve-ready}
 use Rattle.device.proofs.requests.request.Statement.{statement}
 use Rattle.device.proofs.requests.request.Tie as tie
 

@@ -2,7 +2,7 @@
 use native.Mathlib.Omega.{arith}
 use borrow.Author.Needs.{needs}
 use borrow.Author.Tests.{ltb-true}
-use Rattle.device.proofs.Entries.{serve-refused, serve-works, live-fits, few-guests, mask-set}
+use Rattle.effects.proofs.Entries.{serve-refused, serve-works, live-fits, few-guests, mask-set}
 use Rattle.device.proofs.requests.serve.Statement.{statement}
 use Rattle.device.proofs.requests.serve.Tie as tie
 

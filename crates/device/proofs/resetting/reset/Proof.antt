@@ -1,6 +1,6 @@
 -- `device::resetting::reset` meets its contract. Assumes nothing.
 use borrow.Author.Needs.{needs}
-use Rattle.device.proofs.Entries.{reset-no-guest, reset-unsound, reset-works}
+use Rattle.effects.proofs.Entries.{reset-no-guest, reset-unsound, reset-works}
 use Rattle.device.proofs.resetting.reset.Statement.{statement}
 use Rattle.device.proofs.resetting.reset.Tie as tie
 

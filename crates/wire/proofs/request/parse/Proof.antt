@@ -22,25 +22,25 @@ taken-apart-requires c κs =
       typed = refl;
       low = omega (arith, s .before .match .rest .1);
       high = omega arith;
-      sized = eqb-true _ _ (both-left _ _ (c .if3 .taken)) ∙ c .before .before .viommu-readable-length .ensures;
+      sized = eqb-true _ _ (both-left _ _ (c .if3 .taken)) ∙ c .before .before .readable-length .ensures;
     }
 
 -- past the first two refusals, what the two lengths decide
-decided : (c : tie.After-viommu-writable-length)
-    → ByLengths (c .before .before .before .before .before .before .before .args .readable .now) (c .before .before .before .before .before .before .before .args .writable) (c .before .viommu-readable-length .result) (c .viommu-writable-length .result)
+decided : (c : tie.After-writable-length)
+    → ByLengths (c .before .before .before .before .before .before .before .args .readable .now) (c .before .before .before .before .before .before .before .args .writable) (c .before .readable-length .result) (c .writable-length .result)
 decided c =
     let s = c .before .before in
     let a = s .before .before .before .before .before .args in
     by-lengths
     (a .readable .now)
     (a .writable)
-    (c .before .viommu-readable-length .result)
-    (c .viommu-writable-length .result)
+    (c .before .readable-length .result)
+    (c .writable-length .result)
     (s .before .before .before .if1 .left)
     (omega (arith, s .before .match .rest .1))
     (omega arith)
-    (c .before .viommu-readable-length .ensures)
-    (c .viommu-writable-length .ensures)
+    (c .before .readable-length .ensures)
+    (c .writable-length .ensures)
 
 whole : tie.Need-returns-2
 whole c = c .taken-apart .ensures ∙ sym (decided (c .before .before) true (c .before .if3 .taken))

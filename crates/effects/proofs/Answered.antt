@@ -1,0 +1,224 @@
+-- Accesses and fetches on sound state and table, as the device's step has them, are what the arrays and words give.
+use Prim.Native.Nat.{ℕ, zero, suc, _+_, _-_, _*_, _/_, _%_, _≤_, _<_, min}
+use mathlib.Core.Path.{_≡_, refl, sym, ap, subst, _∙_}
+use mathlib.Core.Bool.{Bool, true, false, cond, not, _&&_, _||_}
+use mathlib.Core.List.{List, [], _∷_, _++_}
+use mathlib.Core.Option.{Option, some, none}
+use native.Mathlib.Omega.{arith}
+use native.Mathlib.Nat.{min-le-left}
+use lib.Dec.{leb, ltb, eqb}
+use lib.ListN.{length, getD, take, drop, length-take}
+use lib.Seq.{getD-take, length-take-le}
+use borrow.Author.Tests.{ltb-true, ltb-false, lt-ltb, eqb-true, eq-eqb}
+use Rattle.laws.specs.Lists.{find, tab}
+use Rattle.laws.proofs.Filters.{find-keep}
+use Rattle.laws.proofs.Tables.{length-tab, getD-tab, tab-is}
+use Rattle.laws.proofs.Tests.{both-left, true-false}
+use Rattle.rules.specs.declared.Guest.{Guest}
+use Rattle.rules.specs.declared.Endpoint.{Endpoint}
+use Rattle.rules.specs.declared.Domain.{Domain}
+use Rattle.rules.specs.declared.State.{State}
+use Rattle.rules.specs.declared.Mapping.{Mapping}
+use Rattle.rules.specs.declared.Fault.{Fault}
+use Rattle.rules.specs.declared.Answer.{Answer}
+use Rattle.rules.specs.declared.Answer.the-variants.{Through, Fetched, UnknownEndpoint, Unattached, Unmapped}
+use Rattle.rules.specs.Sizes.{domainSpan, maxFaults, faultSize}
+use Rattle.rules.specs.Configuration.{Config}
+use Rattle.rules.specs.Table.{keyOf, guestOf}
+use Rattle.rules.specs.State.{Attachment, Log, World, Device, noFault, configOf, read, write, flagOf, numberOf, faultAt, logAt}
+use Rattle.rules.specs.Guests.{Part, own, part, replace, withLog}
+use Rattle.rules.specs.Handlers.{attachmentOf, ofKey}
+use Rattle.rules.specs.Access.{permits, lookup, faultOf, logged, fetchable, fetchedInto, fetchedFrom, bytesOf}
+use Rattle.rules.specs.Access as A
+use Rattle.rules.specs.Sound.{guest, sound}
+use Rattle.rules.specs.Device.{Call, access-by, fetch-for, Reply, refused, rule, ownerOf, caller, numbered, work, step}
+use Rattle.rules.specs.Device as rules
+use Rattle.rules.proofs.Worlds.{Good, good-facts, Whole, caller-below}
+use Rattle.rules.proofs.Reading.{sound-good, sound-whole, sound-listed, log-read}
+use Rattle.state.specs.Changes.{faultLogged, faultsDropped}
+use Rattle.state.specs.Search.{indexOf}
+use Rattle.effects.specs.Flat.{device, placeOf, isAttached, liveRecords, answerOf, decided, decision, reasonOf, accessed, fetchCount, fetchBytes}
+use Rattle.effects.specs.Checked.{Shaped}
+use Rattle.effects.proofs.Places.{owner-at}
+use Rattle.effects.proofs.Leaving.{replace-same, attachment-here, flag-here, number-here, of-key-mine}
+use Rattle.effects.proofs.Requested.{small-domain, fault-written, fetch-written}
+use Rattle.effects.proofs.Stepped.{sound-step, kept-is, written, whole}
+
+-- a record that permits an access by a key is of the key
+permits-key : (key x k : ℕ) (r : Mapping) → permits key x k r ≡ true → ofKey key r ≡ true
+unfolding permits
+permits-key key x k r h = both-left (ofKey key r) _ h
+
+module _ (d : Device) (h : sound d ≡ true) (k : Shaped (d .state)) where
+  c : Config
+  c = configOf (d .state)
+
+  endpoints-is : take (d .state .listed) (d .state .endpoints) ≡ configOf (d .state) .endpoints
+  endpoints-is = unfold configOf in refl
+
+  listed-is : d .state .listed ≡ length (configOf (d .state) .endpoints)
+  listed-is = sym (sound-listed d h)
+
+  -- the owner of an endpoint, by its place in the arrays
+  owner-here : (e : Endpoint) → ownerOf e (configOf (d .state) .endpoints) (configOf (d .state) .owners) ≡ cond (ltb (placeOf (d .state) e) (d .state .listed)) (some (guest (getD (d .state .owners) (placeOf (d .state) e) 0))) none
+  unfolding configOf
+  owner-here e =
+      owner-at e (configOf (d .state) .endpoints) (configOf (d .state) .owners) (sym (sound-good d h .sizes))
+      ∙ ap (λ n. cond (ltb (placeOf (d .state) e) n) (some (guest (getD (configOf (d .state) .owners) (placeOf (d .state) e) 0))) none) (sym listed-is)
+      ∙ go (ltb (placeOf (d .state) e) (d .state .listed)) refl
+    where
+      go : (b : Bool) → ltb (placeOf (d .state) e) (d .state .listed) ≡ b → cond b (some (guest (getD (configOf (d .state) .owners) (placeOf (d .state) e) 0))) none ≡ cond b (some (guest (getD (d .state .owners) (placeOf (d .state) e) 0))) none
+      go true x = ap (λ n. some (guest n)) (getD-take (d .state .listed) (d .state .owners) (placeOf (d .state) e) 0 (ltb-true _ _ x))
+      go false x = refl
+
+  module _ (e : Endpoint) (x kind : ℕ) (g : Guest) (owner : ownerOf e (configOf (d .state) .endpoints) (configOf (d .state) .owners) ≡ some g) where
+    m : g .0 < configOf (d .state) .settings .guests
+    m = caller-below (configOf (d .state)) (access-by e x kind) g (sound-good d h) refl (unfold caller in owner)
+
+    abbrev here : Attachment
+    here = attachmentOf e (own (configOf (d .state)) g .endpoints) (part (configOf (d .state)) g (read d) .attachments)
+
+    found-here : (dom : Domain) → attachmentOf e (own (configOf (d .state)) g .endpoints) (part (configOf (d .state)) g (read d) .attachments) ≡ some dom
+        → lookup (keyOf (own (configOf (d .state)) g .guest) dom) x kind (part (configOf (d .state)) g (read d) .records) ≡ lookup (keyOf g dom) x kind (liveRecords d)
+    found-here dom a =
+        unfold lookup own part read in
+        find-keep (λ r. eqb (guestOf r) (g .0)) (permits (keyOf g dom) x kind) (liveRecords d) (λ r p. eq-eqb (guestOf r) (g .0) (of-key-mine g dom r (small-domain (configOf (d .state)) (kept-is d h k) (read d) (whole d h k) g m e dom a) (permits-key (keyOf g dom) x kind r p)))
+
+    -- what the arrays say at the endpoint's place
+    place-is : placeOf (d .state) e ≡ indexOf (e .0) (configOf (d .state) .endpoints)
+    place-is = unfold configOf in refl
+
+    attachment-is : attachmentOf e (own (configOf (d .state)) g .endpoints) (part (configOf (d .state)) g (read d) .attachments) ≡ getD (read d .attachments) (indexOf (e .0) (configOf (d .state) .endpoints)) none
+    attachment-is = attachment-here (configOf (d .state)) (kept-is d h k) (read d) (whole d h k) g m e owner
+
+    flag-is : isAttached (d .state) (placeOf (d .state) e) ≡ eqb (flagOf (attachmentOf e (own (configOf (d .state)) g .endpoints) (part (configOf (d .state)) g (read d) .attachments))) 1
+    flag-is =
+        ap (λ n. isAttached (d .state) n) place-is
+        ∙ ap (λ (v : Device). isAttached (v .state) (indexOf (e .0) (configOf (d .state) .endpoints))) (written d h k)
+        ∙ flag-here (configOf (d .state)) (kept-is d h k) (read d) (whole d h k) g m e owner
+        ∙ ap (λ (a : Attachment). eqb (flagOf a) 1) (sym attachment-is)
+
+    number-is : getD (d .state .domains) (placeOf (d .state) e) 0 ≡ numberOf (attachmentOf e (own (configOf (d .state)) g .endpoints) (part (configOf (d .state)) g (read d) .attachments))
+    number-is =
+        ap (λ n. getD (d .state .domains) n 0) place-is
+        ∙ ap (λ (v : Device). getD (v .state .domains) (indexOf (e .0) (configOf (d .state) .endpoints)) 0) (written d h k)
+        ∙ number-here (configOf (d .state)) (kept-is d h k) (read d) (whole d h k) g m e owner
+        ∙ ap numberOf (sym attachment-is)
+
+    -- a fault logged for the owner
+    logged-here : (reason : ℕ) → getD (d .state .owners) (placeOf (d .state) e) 0 ≡ g .0
+        → device (faultLogged (d .state) (getD (d .state .owners) (placeOf (d .state) e) 0) (faultOf reason e x kind)) (d .table)
+        ≡ write (configOf (d .state)) (replace (configOf (d .state)) g (withLog (logged (faultOf reason e x kind) (part (configOf (d .state)) g (read d) .log)) (part (configOf (d .state)) g (read d))) (read d))
+    logged-here reason o =
+        ap (λ n. device (faultLogged (d .state) n (faultOf reason e x kind)) (d .table)) o
+        ∙ ap (λ (v : Device). device (faultLogged (v .state) (g .0) (faultOf reason e x kind)) (v .table)) (written d h k)
+        ∙ fault-written (configOf (d .state)) (kept-is d h k) (read d) (whole d h k) g m (faultOf reason e x kind)
+
+    same-here : d ≡ write (configOf (d .state)) (replace (configOf (d .state)) g (part (configOf (d .state)) g (read d)) (read d))
+    same-here = written d h k ∙ ap (λ (v : World). write (configOf (d .state)) v) (sym (replace-same (configOf (d .state)) (read d) (whole d h k) g))
+
+    -- an answer, and what it leaves, as the arrays give them
+    abbrev flat : Answer → Reply × Device
+    flat a = (record { answer = a; buffer = [] }, device (accessed (d .state) e x kind a) (d .table))
+
+    -- and as the rule gives them
+    abbrev ruled : Answer × Part → Reply × Device
+    ruled r = (record { answer = r .0; buffer = [] }, write (configOf (d .state)) (replace (configOf (d .state)) g (r .1) (read d)))
+
+    looked : getD (d .state .owners) (placeOf (d .state) e) 0 ≡ g .0 → (o : Option Mapping) → flat (answerOf x o) ≡ ruled (A.translated e x kind (part (configOf (d .state)) g (read d)) o)
+    unfolding accessed answerOf A.translated A.blocked
+    looked w none = ap (λ (v : Device). (record { answer = Unmapped; buffer = [] }, v)) (logged-here 2 w)
+    looked w (some r) = ap (λ (v : Device). (record { answer = Through (x - r .start + r .phys); buffer = [] }, v)) same-here
+
+    unattached : ltb (placeOf (d .state) e) (d .state .listed) ≡ true → eqb (getD (d .state .attached) (placeOf (d .state) e) 0) 1 ≡ false → decision d e x kind ≡ Unattached
+    unfolding decided
+    unattached l off = rw (l, off)
+
+    by-lookup : (dom : Domain) → ltb (placeOf (d .state) e) (d .state .listed) ≡ true → eqb (getD (d .state .attached) (placeOf (d .state) e) 0) 1 ≡ true → getD (d .state .owners) (placeOf (d .state) e) 0 ≡ g .0 → getD (d .state .domains) (placeOf (d .state) e) 0 ≡ dom .0
+        → decision d e x kind ≡ answerOf x (lookup (keyOf g dom) x kind (liveRecords d))
+    unfolding decided
+    by-lookup dom l on w number = rw (l, on, w, number)
+
+    -- the rule's answer, by the endpoint's attachment
+    abbrev ruledBy : Attachment → Reply × Device
+    ruledBy a = ruled (A.decided (own (configOf (d .state)) g) (part (configOf (d .state)) g (read d)) e x kind a)
+
+    flat-unattached : getD (d .state .owners) (placeOf (d .state) e) 0 ≡ g .0 → flat Unattached ≡ ruledBy none
+    unfolding accessed A.decided A.blocked
+    flat-unattached w = ap (λ (v : Device). (record { answer = Unattached; buffer = [] }, v)) (logged-here 1 w)
+
+    flat-found : (dom : Domain) → getD (d .state .owners) (placeOf (d .state) e) 0 ≡ g .0 → flat (answerOf x (lookup (keyOf (own (configOf (d .state)) g .guest) dom) x kind (part (configOf (d .state)) g (read d) .records))) ≡ ruledBy (some dom)
+    unfolding A.decided
+    flat-found dom w = looked w (lookup (keyOf (own (configOf (d .state)) g .guest) dom) x kind (part (configOf (d .state)) g (read d) .records))
+
+    decided-by : ltb (placeOf (d .state) e) (d .state .listed) ≡ true → getD (d .state .owners) (placeOf (d .state) e) 0 ≡ g .0 → (a : Attachment) → attachmentOf e (own (configOf (d .state)) g .endpoints) (part (configOf (d .state)) g (read d) .attachments) ≡ a → flat (decision d e x kind) ≡ ruledBy a
+    decided-by l w none a = ap (λ (y : Answer). flat y) (unattached l (flag-is ∙ ap (λ (y : Attachment). eqb (flagOf y) 1) a)) ∙ flat-unattached w
+    decided-by l w (some dom) a =
+        ap (λ (y : Answer). flat y) (by-lookup dom l (flag-is ∙ ap (λ (y : Attachment). eqb (flagOf y) 1) a) w (number-is ∙ ap numberOf a) ∙ ap (λ (o : Option Mapping). answerOf x o) (sym (found-here dom a)))
+        ∙ flat-found dom w
+
+    decided-here : ltb (placeOf (d .state) e) (d .state .listed) ≡ true → getD (d .state .owners) (placeOf (d .state) e) 0 ≡ g .0
+        → flat (decision d e x kind) ≡ ruledBy (attachmentOf e (own (configOf (d .state)) g .endpoints) (part (configOf (d .state)) g (read d) .attachments))
+    decided-here l w = decided-by l w (attachmentOf e (own (configOf (d .state)) g .endpoints) (part (configOf (d .state)) g (read d) .attachments)) refl
+
+  unlisted : (e : Endpoint) (x kind : ℕ) → ltb (placeOf (d .state) e) (d .state .listed) ≡ false → decision d e x kind ≡ UnknownEndpoint
+  unfolding decided
+  unlisted e x kind l = rw l
+
+  listed-step : (e : Endpoint) (x kind : ℕ) (g : Guest) → ownerOf e (configOf (d .state) .endpoints) (configOf (d .state) .owners) ≡ some g → ltb (placeOf (d .state) e) (d .state .listed) ≡ true → getD (d .state .owners) (placeOf (d .state) e) 0 ≡ g .0
+      → rules.worked d (some g) (access-by e x kind) ≡ (record { answer = decision d e x kind; buffer = [] }, device (accessed (d .state) e x kind (decision d e x kind)) (d .table))
+  unfolding rules.worked work rule A.access
+  listed-step e x kind g owner l w = sym (decided-here e x kind g owner l w)
+
+  unlisted-step : (e : Endpoint) (x kind : ℕ) → rules.worked d none (access-by e x kind) ≡ (record { answer = UnknownEndpoint; buffer = [] }, device (accessed (d .state) e x kind UnknownEndpoint) (d .table))
+  unfolding rules.worked accessed
+  unlisted-step e x kind = refl
+
+  by-owner : (e : Endpoint) (x kind : ℕ) → rules.worked d (ownerOf e (configOf (d .state) .endpoints) (configOf (d .state) .owners)) (access-by e x kind) ≡ (record { answer = decision d e x kind; buffer = [] }, device (accessed (d .state) e x kind (decision d e x kind)) (d .table))
+  by-owner e x kind = go (ltb (placeOf (d .state) e) (d .state .listed)) refl
+    where
+      go : (b : Bool) → ltb (placeOf (d .state) e) (d .state .listed) ≡ b
+          → rules.worked d (ownerOf e (configOf (d .state) .endpoints) (configOf (d .state) .owners)) (access-by e x kind) ≡ (record { answer = decision d e x kind; buffer = [] }, device (accessed (d .state) e x kind (decision d e x kind)) (d .table))
+      go true l =
+          let owner : ownerOf e (configOf (d .state) .endpoints) (configOf (d .state) .owners) ≡ some (guest (getD (d .state .owners) (placeOf (d .state) e) 0)) = owner-here e ∙ rw l in
+          rw owner (listed-step e x kind (guest (getD (d .state .owners) (placeOf (d .state) e) 0)) owner l refl)
+      go false l =
+          let owner : ownerOf e (configOf (d .state) .endpoints) (configOf (d .state) .owners) ≡ none = owner-here e ∙ rw l in
+          rw (owner, unlisted e x kind l) (unlisted-step e x kind)
+
+  pub access-step : (e : Endpoint) (x kind : ℕ) → step d (access-by e x kind) ≡ (record { answer = decision d e x kind; buffer = [] }, device (accessed (d .state) e x kind (decision d e x kind)) (d .table))
+  unfolding caller
+  access-step e x kind = sound-step d (access-by e x kind) refl h ∙ by-owner e x kind
+
+  -- FETCH
+
+  take-tab : {A : Type 0} (z : A) (n l : ℕ) (f : ℕ → A) → n ≤ l → take n (tab l f) ≡ tab n f
+  take-tab z n l f s = sym (tab-is n f (take n (tab l f)) z (length-take-le n (tab l f) (rw (length-tab l f) s)) (λ i j. sym (getD-take n (tab l f) i z j ∙ getD-tab l f i z (omega arith))))
+
+  pub fetch-step : (g : Guest) (b : List ℕ) → ltb (g .0) (d .state .settings .guests) ≡ true
+      → step d (fetch-for g b) ≡ (record { answer = Fetched (fetchCount (d .state) g (length b)); buffer = fetchBytes (d .state) g (fetchCount (d .state) g (length b)) b }, device (faultsDropped (d .state) (g .0) (fetchCount (d .state) g (length b))) (d .table))
+  fetch-step g b l =
+      sound-step d (fetch-for g b) (unfold configOf in l) h
+      ∙ unfold caller rules.worked work rule in
+      (rw count (ap (λ (p : List ℕ × Device). (record { answer = Fetched n; buffer = p .0 }, p .1)) pair))
+    where
+      below : g .0 < configOf (d .state) .settings .guests
+      below = unfold configOf in ltb-true (g .0) (d .state .settings .guests) l
+
+      n : ℕ
+      n = fetchCount (d .state) g (length b)
+
+      log-is : part (configOf (d .state)) g (read d) .log ≡ logAt (d .state) (g .0)
+      log-is = unfold part in log-read d h (g .0) below
+
+      count : fetchable (part (configOf (d .state)) g (read d) .log) b ≡ n
+      count = ap (λ (q : Log). fetchable q b) log-is ∙ ap (λ i. min i (length b / faultSize)) (length-tab (getD (d .state .logged) (g .0) 0) (λ j. faultAt (d .state) (maxFaults * g .0 + j)))
+
+      bytes : fetchedInto n (part (configOf (d .state)) g (read d) .log) b ≡ fetchBytes (d .state) g n b
+      bytes = ap (λ (q : Log). fetchedInto n q b) log-is ∙ unfold fetchedInto fetchBytes in ap (λ (q : List Fault). bytesOf q ++ drop (faultSize * n) b) (take-tab noFault n (getD (d .state .logged) (g .0) 0) (λ j. faultAt (d .state) (maxFaults * g .0 + j)) (min-le-left (getD (d .state .logged) (g .0) 0) (length b / faultSize)))
+
+      kept-device : write (configOf (d .state)) (replace (configOf (d .state)) g (withLog (fetchedFrom n (part (configOf (d .state)) g (read d) .log)) (part (configOf (d .state)) g (read d))) (read d)) ≡ device (faultsDropped (d .state) (g .0) n) (d .table)
+      kept-device = sym (ap (λ (v : Device). device (faultsDropped (v .state) (g .0) n) (v .table)) (written d h k) ∙ fetch-written (configOf (d .state)) (kept-is d h k) (read d) (whole d h k) g below n)
+
+      pair : _≡_ {A = List ℕ × Device} (fetchedInto n (part (configOf (d .state)) g (read d) .log) b, write (configOf (d .state)) (replace (configOf (d .state)) g (withLog (fetchedFrom n (part (configOf (d .state)) g (read d) .log)) (part (configOf (d .state)) g (read d))) (read d))) (fetchBytes (d .state) g n b, device (faultsDropped (d .state) (g .0) n) (d .table))
+      pair = rw (bytes, kept-device)

@@ -1,0 +1,174 @@
+-- Sound state and table, as the code has them, are what writing their world gives.
+use Prim.Native.Nat.{ℕ, zero, suc, _+_, _-_, _*_, _/_, _%_, _≤_, _<_}
+use mathlib.Core.Path.{_≡_, refl, sym, ap, subst, _∙_}
+use mathlib.Core.Bool.{Bool, true, false, cond, not, _&&_, _||_}
+use mathlib.Core.List.{List, [], _∷_, _++_}
+use mathlib.Core.Option.{Option, some, none}
+use mathlib.Core.Logic.{_⊎_, inl, inr}
+use native.Mathlib.Omega.{arith}
+use lib.Dec.{leb, ltb, eqb}
+use lib.ListN.{length, getD, take, drop, replicate, length-take, length-drop, List·getD-eq-default}
+use lib.Seq.{ext-getD, getD-take, getD-drop, length-take-le}
+use borrow.Author.Tests.{ltb-true, ltb-false, leb-true, eqb-true, eqb-false, eq-eqb, lt-ltb, le-ltb}
+use Rattle.laws.specs.Lists.{all?, every?, below, tab, pad}
+use Rattle.laws.proofs.Tests.{both-left, both-right, true-false, or-cases, Each, opened}
+use Rattle.laws.proofs.Tables.{below-at, length-tab, getD-tab, tab-is, all-at, replicate-is}
+use Rattle.rules.specs.declared.State.{State}
+use Rattle.rules.specs.declared.Settings.{Settings}
+use Rattle.rules.specs.declared.Fault.{Fault}
+use Rattle.rules.specs.Sizes.{maxGuests, maxEndpoints, maxFaults, faultPlaces, recordWords, tableWords}
+use Rattle.rules.specs.Configuration.{Config, share, first, last}
+use Rattle.rules.specs.Table.{records, words, tableOf}
+use Rattle.rules.specs.State.{Attachment, Log, World, Device, noFault, noLog, configOf, attachment, attachmentAt, faultAt, logAt, read, trimmed, flagOf, numberOf, logOf, placed, stateOf, write}
+use Rattle.rules.specs.Handlers.{outside}
+use Rattle.rules.specs.Sound.{guest, attachmentGood, zeroFrom, faultZero, faultPlaceGood, unusedTests, soundTests, sound}
+use Rattle.rules.proofs.Words.{length-records, words-split}
+use Rattle.effects.specs.Checked.{Shaped}
+use Rattle.rules.proofs.Worlds.{Good, Whole}
+use Rattle.rules.proofs.Reading.{tests, sound-good, sound-listed, sound-whole, log-read}
+
+pub zero-at : (n : ℕ) (l : List ℕ) (i : ℕ) → zeroFrom n l ≡ true → n ≤ i → i < length l → getD l i 0 ≡ 0
+unfolding zeroFrom
+zero-at n l i h k m =
+    sym (eqb-true 0 (getD l i 0) (subst (λ (x : ℕ). eqb 0 x ≡ true) (getD-drop n l (i - n) 0 ∙ ap (λ j. getD l j 0) (omega arith)) (all-at (eqb 0) (drop n l) (i - n) 0 h (simp length-drop (omega arith)))))
+
+-- a list by index with zero past n is the list that is zero there
+kept-until : (m n : ℕ) (l : List ℕ) → length l ≡ m → zeroFrom n l ≡ true → tab m (λ g. cond (ltb g n) (getD l g 0) 0) ≡ l
+kept-until m n l e h = tab-is m _ l 0 e (λ i k. go i k (ltb i n) refl)
+  where
+    go : (i : ℕ) → i < m → (b : Bool) → ltb i n ≡ b → cond b (getD l i 0) 0 ≡ getD l i 0
+    go i k true x = refl
+    go i k false x = sym (zero-at n l i h (ltb-false i n x) (rw e k))
+
+padded : (m n : ℕ) (l : List ℕ) → length l ≡ m → zeroFrom n l ≡ true → pad m 0 (take n l) ≡ l
+padded m n l e h = tab-is m _ l 0 e (λ i k. go i k (ltb i n) refl)
+  where
+    go : (i : ℕ) → i < m → (b : Bool) → ltb i n ≡ b → getD (take n l) i 0 ≡ getD l i 0
+    go i k true x = getD-take n l i 0 (ltb-true i n x)
+    go i k false x = List·getD-eq-default (take n l) 0 (rw length-take (omega (arith, ltb-false i n x))) ∙ sym (zero-at n l i h (ltb-false i n x) (rw e k))
+
+-- by index, a list of n values with a number read off each, zero past them
+read-off : {A : Type 0} (m n : ℕ) (f : ℕ → A) (z : A) (q : A → ℕ) (l : List ℕ) → length l ≡ m → zeroFrom n l ≡ true → q z ≡ 0 → ((i : ℕ) → i < n → q (f i) ≡ getD l i 0) → tab m (λ i. q (getD (tab n f) i z)) ≡ l
+read-off m n f z q l e h qz s = tab-is m _ l 0 e (λ i k. go i k (ltb i n) refl)
+  where
+    go : (i : ℕ) → i < m → (b : Bool) → ltb i n ≡ b → q (getD (tab n f) i z) ≡ getD l i 0
+    go i k true x = ap q (getD-tab n f i z (ltb-true i n x)) ∙ s i (ltb-true i n x)
+    go i k false x = ap q (List·getD-eq-default (tab n f) z (rw (length-tab n f) (ltb-false i n x))) ∙ qz ∙ sym (zero-at n l i h (ltb-false i n x) (rw e k))
+
+module _ (d : Device) (h : sound d ≡ true) (k : Shaped (d .state)) where
+  abbrev s : State
+  s = d .state
+
+  unused : Each (unusedTests (d .state))
+  unused = opened (unusedTests (d .state)) (tests d h .1 .1 .1 .1 .1 .1 .1 .1 .1 .1 .1 .1 .0)
+
+  pub settings-back : trimmed (s .settings) ≡ s .settings
+  settings-back =
+      unfold trimmed in
+      rw (kept-until maxGuests (s .settings .guests) (s .settings .shares) (k .shares) (unused .0), kept-until maxGuests (s .settings .guests) (s .settings .firsts) (k .firsts) (unused .1 .0), kept-until maxGuests (s .settings .guests) (s .settings .lasts) (k .lasts) (unused .1 .1 .0))
+
+  pub small-count : s .listed ≤ maxEndpoints
+  small-count = omega (arith, sound-listed d h, sound-good d h .few)
+
+  flag-of : (flag n : ℕ) → attachmentGood (configOf s) flag n ≡ true → (flagOf (attachment flag n) ≡ flag) × (numberOf (attachment flag n) ≡ n)
+  unfolding attachmentGood
+  flag-of flag n g = go (or-cases _ _ g)
+    where
+      go : ((eqb flag 1 && not (outside (configOf s .settings .domains .start) (configOf s .settings .domains .end) n)) ≡ true) ⊎ ((eqb flag 0 && eqb n 0) ≡ true) → (flagOf (attachment flag n) ≡ flag) × (numberOf (attachment flag n) ≡ n)
+      go (inl a) = let e = both-left (eqb flag 1) _ a in let one = eqb-true flag 1 e in (rw one, rw one)
+      go (inr a) =
+          let none-flag = eqb-true flag 0 (both-left (eqb flag 0) _ a) in
+          let none-domain = eqb-true n 0 (both-right (eqb flag 0) _ a) in
+          (rw (none-flag), rw (none-flag, none-domain))
+
+  at-listed : (i : ℕ) → i < s .listed → attachmentGood (configOf s) (getD (s .attached) i 0) (getD (s .domains) i 0) ≡ true
+  at-listed i l = below-at (s .listed) _ i (tests d h .1 .1 .1 .1 .1 .1 .1 .1 .1 .0) l
+
+  attached-back : tab maxEndpoints (λ i. flagOf (getD (tab (s .listed) (attachmentAt s)) i none)) ≡ s .attached
+  attached-back = read-off maxEndpoints (s .listed) (attachmentAt s) none flagOf (s .attached) (k .attached) (unused .1 .1 .1 .1 .1 .1 .1 .0) refl (λ i l. flag-of _ _ (at-listed i l) .0)
+
+  domains-back : tab maxEndpoints (λ i. numberOf (getD (tab (s .listed) (attachmentAt s)) i none)) ≡ s .domains
+  domains-back = read-off maxEndpoints (s .listed) (attachmentAt s) none numberOf (s .domains) (k .domains) (unused .1 .1 .1 .1 .1 .1 .1 .1 .0) refl (λ i l. flag-of _ _ (at-listed i l) .1)
+
+  logged-back : tab maxGuests (λ g. length (getD (tab (s .settings .guests) (logAt s)) g noLog .faults)) ≡ s .logged
+  logged-back = read-off maxGuests (s .settings .guests) (logAt s) noLog (λ l. length (l .faults)) (s .logged) (k .logged) (unused .1 .1 .1 .0) refl (λ i l. length-tab (getD (s .logged) i 0) (λ j. faultAt s (maxFaults * i + j)))
+
+  lost-back : tab maxGuests (λ g. getD (tab (s .settings .guests) (logAt s)) g noLog .lost) ≡ s .lost
+  lost-back = read-off maxGuests (s .settings .guests) (logAt s) noLog (λ l. l .lost) (s .lost) (k .lost) (unused .1 .1 .1 .1 .0) refl (λ i l. refl)
+
+  -- the fault placed at i is the one that stands there
+  place-good : (i : ℕ) → i < faultPlaces → faultPlaceGood (configOf s) s i ≡ true
+  place-good i l = below-at faultPlaces (faultPlaceGood (configOf s) s) i (tests d h .1 .1 .1 .1 .1 .1 .1 .1 .1 .1 .1 .1 .1 .0) l
+
+  zero-fault : (f : Fault) → faultZero f ≡ true → f ≡ noFault
+  zero-fault f z =
+      let a = both-left (eqb (f .reason) 0 && eqb (f .flags) 0) _ z in
+      let b = both-right (eqb (f .reason) 0 && eqb (f .flags) 0) _ z in
+      rw (eqb-true (f .reason) 0 (both-left _ _ a), eqb-true (f .flags) 0 (both-right (eqb (f .reason) 0) _ a), eqb-true (f .endpoint .0) 0 (both-left (eqb (f .endpoint .0) 0) _ b), eqb-true (f .address) 0 (both-right (eqb (f .endpoint .0) 0) _ b))
+
+  -- a place past the log's count holds no fault
+  past-count : (i : ℕ) → i < faultPlaces → getD (s .logged) (i / maxFaults) 0 ≤ i % maxFaults → faultAt s i ≡ noFault
+  past-count i l p = zero-fault (faultAt s i) (unfold faultPlaceGood in (rw (le-ltb (i % maxFaults) (getD (s .logged) (i / maxFaults) 0) p) at (place-good i l)))
+
+  placed-back : (i : ℕ) → i < faultPlaces → getD (getD (tab (s .settings .guests) (logAt s)) (i / maxFaults) noLog .faults) (i % maxFaults) noFault ≡ faultAt s i
+  placed-back i l = go (ltb (i / maxFaults) (s .settings .guests)) refl
+    where
+      g : ℕ
+      g = i / maxFaults
+
+      whole-place : maxFaults * (i / maxFaults) + i % maxFaults ≡ i
+      whole-place = omega arith
+
+      held : (b : Bool) → ltb (i % maxFaults) (getD (s .logged) (i / maxFaults) 0) ≡ b → getD (tab (getD (s .logged) (i / maxFaults) 0) (λ j. faultAt s (maxFaults * (i / maxFaults) + j))) (i % maxFaults) noFault ≡ faultAt s i
+      held true x = getD-tab (getD (s .logged) (i / maxFaults) 0) (λ j. faultAt s (maxFaults * (i / maxFaults) + j)) (i % maxFaults) noFault (ltb-true _ _ x) ∙ ap (λ (n : ℕ). faultAt s n) whole-place
+      held false x =
+          List·getD-eq-default (tab (getD (s .logged) (i / maxFaults) 0) (λ j. faultAt s (maxFaults * (i / maxFaults) + j))) noFault (rw (length-tab (getD (s .logged) (i / maxFaults) 0) (λ j. faultAt s (maxFaults * (i / maxFaults) + j))) (ltb-false _ _ x))
+          ∙ sym (past-count i l (ltb-false _ _ x))
+
+      go : (b : Bool) → ltb (i / maxFaults) (s .settings .guests) ≡ b → getD (getD (tab (s .settings .guests) (logAt s)) (i / maxFaults) noLog .faults) (i % maxFaults) noFault ≡ faultAt s i
+      go true x = ap (λ (q : Log). getD (q .faults) (i % maxFaults) noFault) (getD-tab (s .settings .guests) (logAt s) (i / maxFaults) noLog (ltb-true _ _ x)) ∙ held (ltb (i % maxFaults) (getD (s .logged) (i / maxFaults) 0)) refl
+      go false x =
+          ap (λ (q : Log). getD (q .faults) (i % maxFaults) noFault) (List·getD-eq-default (tab (s .settings .guests) (logAt s)) noLog (rw (length-tab (s .settings .guests) (logAt s)) (ltb-false _ _ x)))
+          ∙ sym (past-count i l (omega (arith, zero-at (s .settings .guests) (s .logged) (i / maxFaults) (unused .1 .1 .1 .0) (ltb-false _ _ x) (rw (k .logged) (omega arith)))))
+
+  faults-back : (q : Fault → ℕ) (l : List ℕ) → length l ≡ faultPlaces → ((i : ℕ) → q (faultAt s i) ≡ getD l i 0) → tab faultPlaces (λ i. q (getD (getD (tab (s .settings .guests) (logAt s)) (i / maxFaults) noLog .faults) (i % maxFaults) noFault)) ≡ l
+  faults-back q l e f = tab-is faultPlaces _ l 0 e (λ i m. ap q (placed-back i m) ∙ f i)
+
+  live-back : length (take (s .live) (records (d .table))) ≡ s .live
+  live-back = length-take-le (s .live) (records (d .table)) (rw (length-records (d .table), eqb-true (length (d .table)) tableWords (tests d h .0)) (leb-true (s .live) 256 (tests d h .1 .1 .1 .0)))
+
+  -- the state and the table written back are those that were read
+  pub state-back : stateOf (configOf (d .state)) (read d) ≡ d .state
+  state-back =
+      unfold stateOf configOf read in
+      rw (
+        settings-back,
+        sound-listed-here,
+        padded maxEndpoints (s .listed) (s .endpoints) (k .endpoints) (unused .1 .1 .1 .1 .1 .0),
+        padded maxEndpoints (s .listed) (s .owners) (k .owners) (unused .1 .1 .1 .1 .1 .1 .0),
+        attached-back,
+        domains-back,
+        live-back,
+        logged-back,
+        lost-back,
+        faults-back (λ f. f .reason) (s .reasons) (k .reasons) (λ i. refl),
+        faults-back (λ f. f .flags) (s .flags) (k .flags) (λ i. refl),
+        faults-back (λ f. f .endpoint .0) (s .sources) (k .sources) (λ i. refl),
+        faults-back (λ f. f .address) (s .addresses) (k .addresses) (λ i. refl),
+      )
+    where
+      sound-listed-here : length (take (s .listed) (s .endpoints)) ≡ s .listed
+      sound-listed-here = unfold configOf in sound-listed d h
+
+  zeros-after : drop (recordWords * s .live) (d .table) ≡ replicate (tableWords - recordWords * s .live) 0
+  zeros-after =
+      sym (replicate-is (tableWords - recordWords * s .live) 0 (drop (recordWords * s .live) (d .table)) size
+      (λ i l. getD-drop (recordWords * s .live) (d .table) i 0 ∙ zero-at (recordWords * s .live) (d .table) (recordWords * s .live + i) (tests d h .1 .1 .1 .1 .1 .0) (omega arith) (omega (arith, l, eqb-true (length (d .table)) tableWords (tests d h .0)))))
+    where
+      size : length (drop (recordWords * s .live) (d .table)) ≡ tableWords - recordWords * s .live
+      size = simp length-drop (omega (arith, eqb-true (length (d .table)) tableWords (tests d h .0)))
+
+  pub table-back : tableOf (read d .records) ≡ d .table
+  table-back =
+      unfold tableOf read in
+      (rw live-back (ap (λ (z : List ℕ). words (take (s .live) (records (d .table))) ++ z) (sym zeros-after) ∙ words-split (s .live) (d .table) (omega (arith, eqb-true (length (d .table)) tableWords (tests d h .0), leb-true (s .live) 256 (tests d h .1 .1 .1 .0)))))

@@ -1,0 +1,118 @@
+-- Each call on sound state and table, as the device's step has it, is what the arrays and words give.
+use Prim.Native.Nat.{ℕ, zero, suc, _+_, _-_, _*_, _/_, _%_, _≤_, _<_, min}
+use mathlib.Core.Path.{_≡_, refl, sym, ap, subst, _∙_}
+use mathlib.Core.Bool.{Bool, true, false, cond, not, _&&_, _||_}
+use mathlib.Core.List.{List, [], _∷_, _++_}
+use mathlib.Core.Option.{Option, some, none}
+use native.Mathlib.Omega.{arith}
+use lib.Dec.{leb, ltb, eqb}
+use lib.ListN.{length, getD, take, drop}
+use borrow.Author.Tests.{ltb-true, ltb-false, lt-ltb, le-ltb, eqb-true}
+use Rattle.laws.specs.Lists.{firstFailing, tab}
+use Rattle.rules.specs.declared.Guest.{Guest}
+use Rattle.rules.specs.declared.State.{State}
+use Rattle.rules.specs.declared.Answer.{Answer}
+use Rattle.rules.specs.declared.Answer.the-variants.{Done, Served, NoSuchGuest, Unsound}
+use Rattle.rules.specs.Configuration.{Config}
+use Rattle.rules.specs.Table.{keyOf}
+use Rattle.rules.specs.State.{World, Device, configOf, read, write, trimmed}
+use Rattle.rules.specs.Guests.{Own, Part, own, part, replace}
+use Rattle.rules.specs.Requests.{ATTACH, DETACH, MAP, requestRefusals, typeOf, domainField, endpointField, attachReserved, virtStart, virtEnd, unmapReserved}
+use Rattle.rules.specs.Handlers.{attach, detach, addMapping, unmap, askedFor, handle}
+use Rattle.rules.specs.Access.{reset}
+use Rattle.rules.specs.Sound.{sound}
+use Rattle.rules.specs.Device.{Call, request, access-by, reset-of, fetch-for, Reply, refused, requested, rule, caller, numbered, work, step}
+use Rattle.rules.specs.Device as rules
+use Rattle.rules.proofs.Worlds.{Good, good-facts, Whole}
+use Rattle.rules.proofs.Writing.{kept}
+use Rattle.rules.proofs.Reading.{sound-whole}
+use Rattle.wire.specs.Parsed.{asked, parsed, unless, mapFields, unmapFields}
+use Rattle.wire.specs.declared.request.Request.the-variants.{Attach, Detach, Map, Unmap}
+use Rattle.effects.specs.Flat.{device, Worked, worked, attachFlat, detachFlat, mapFlat, unmapFlat, resetFlat}
+use Rattle.effects.specs.Serve.{recordOf, handled}
+use Rattle.effects.specs.Checked.{Shaped}
+use Rattle.effects.proofs.Shape.{settings-back, state-back, table-back}
+use Rattle.effects.proofs.Leaving.{replace-same}
+use Rattle.effects.proofs.Requested.{attach-written, detach-written, map-written, unmap-written, reset-written}
+
+-- REFUSALS
+
+pub no-such-guest : (d : Device) (x : Call) → numbered (configOf (d .state)) x ≡ false → step d x ≡ (refused NoSuchGuest x, d)
+unfolding step
+no-such-guest d x n = rw n
+
+pub unsound : (d : Device) (x : Call) → numbered (configOf (d .state)) x ≡ true → sound d ≡ false → step d x ≡ (refused Unsound x, d)
+unfolding step
+unsound d x n s = rw (n, s)
+
+pub sound-step : (d : Device) (x : Call) → numbered (configOf (d .state)) x ≡ true → sound d ≡ true → step d x ≡ rules.worked d (caller (configOf (d .state)) x) x
+unfolding step
+sound-step d x n s = rw (n, s)
+
+module _ (d : Device) (h : sound d ≡ true) (k : Shaped (d .state)) where
+  abbrev c : Config
+  c = configOf (d .state)
+
+  abbrev w : World
+  w = read d
+
+  pub kept-is : kept (configOf (d .state)) ≡ configOf (d .state)
+  kept-is = unfold kept configOf in rw (settings-back d h k)
+
+  -- the device is what its world writes
+  pub written : d ≡ write (configOf (d .state)) (read d)
+  written = unfold write in rw (state-back d h k, table-back d h k)
+
+  pub whole : Whole (configOf (d .state)) (read d)
+  whole = sound-whole d h
+
+  -- RESET
+
+  pub reset-step : (g : Guest) → ltb (g .0) (d .state .settings .guests) ≡ true → step d (reset-of g) ≡ (record { answer = Done; buffer = [] }, resetFlat d g)
+  reset-step g l =
+      sound-step d (reset-of g) (unfold configOf in l) h
+      ∙ unfold caller rules.worked work rule in
+      ap (λ (e : Device). (record { answer = Done; buffer = [] }, e)) (sym (ap (λ (e : Device). resetFlat e g) written ∙ reset-written (configOf (d .state)) kept-is (read d) whole g (unfold configOf in ltb-true (g .0) (d .state .settings .guests) l)))
+
+  -- REQUESTS
+
+  module _ (g : Guest) (l : ltb (g .0) (d .state .settings .guests) ≡ true) where
+    m : g .0 < configOf (d .state) .settings .guests
+    m = unfold configOf in ltb-true (g .0) (d .state .settings .guests) l
+
+    -- what a rule gives, put back
+    abbrev back : ℕ × Part → Worked
+    back r = worked (r .0) (write (configOf (d .state)) (replace (configOf (d .state)) g (r .1) (read d)))
+
+    abbrev o : Own
+    o = own (configOf (d .state)) g
+
+    abbrev p : Part
+    p = part (configOf (d .state)) g (read d)
+
+    map-here : (r : List ℕ) → mapFlat (write (configOf (d .state)) (read d)) g (domainField r) (recordOf g (domainField r) (mapFields r)) ≡ back (addMapping (own (configOf (d .state)) g) (part (configOf (d .state)) g (read d)) (domainField r) (askedFor (own (configOf (d .state)) g) r))
+    map-here r = unfold own in map-written (configOf (d .state)) kept-is (read d) whole g m (domainField r) (recordOf g (domainField r) (mapFields r)) refl
+
+    pub handle-step : (r : List ℕ) → handled d g (asked r) ≡ back (handle (own (configOf (d .state)) g) (part (configOf (d .state)) g (read d)) r)
+    handle-step r = ap (λ (e : Device). handled e g (asked r)) written ∙ unfold asked handle in go (eqb (typeOf r) ATTACH) (eqb (typeOf r) DETACH) (eqb (typeOf r) MAP)
+      where
+        go : (t u v : Bool)
+            → handled (write (configOf (d .state)) (read d)) g (cond t (Attach (domainField r) (endpointField r) (attachReserved r)) (cond u (Detach (domainField r) (endpointField r) (attachReserved r)) (cond v (Map (domainField r) (mapFields r)) (Unmap (domainField r) (unmapFields r)))))
+            ≡ back (cond t (attach (own (configOf (d .state)) g) (part (configOf (d .state)) g (read d)) (domainField r) (endpointField r) (attachReserved r)) (cond u (detach (own (configOf (d .state)) g) (part (configOf (d .state)) g (read d)) (domainField r) (endpointField r) (attachReserved r)) (cond v (addMapping (own (configOf (d .state)) g) (part (configOf (d .state)) g (read d)) (domainField r) (askedFor (own (configOf (d .state)) g) r)) (unmap (own (configOf (d .state)) g) (part (configOf (d .state)) g (read d)) (domainField r) (virtStart r) (virtEnd r) (unmapReserved r)))))
+        go true u v = unfold handled in attach-written (configOf (d .state)) kept-is (read d) whole g m (domainField r) (endpointField r) (attachReserved r)
+        go false true v = unfold handled in detach-written (configOf (d .state)) kept-is (read d) whole g m (domainField r) (endpointField r) (attachReserved r)
+        go false false true = unfold handled in map-here r
+        go false false false = unfold handled in unmap-written (configOf (d .state)) kept-is (read d) whole g m (domainField r) (virtStart r) (virtEnd r) (unmapReserved r)
+
+    -- a request that is refused, and one that is worked
+    pub refused-step : (r b : List ℕ) (a : Answer) → firstFailing (requestRefusals r (length b)) ≡ some a → step d (request g r b) ≡ (record { answer = a; buffer = b }, d)
+    refused-step r b a f =
+        sound-step d (request g r b) (unfold configOf in l) h
+        ∙ unfold caller rules.worked work rule requested in
+        rw f (ap (λ (e : Device). (record { answer = a; buffer = b }, e)) (sym (written ∙ ap (λ (v : World). write (configOf (d .state)) v) (sym (replace-same (configOf (d .state)) (read d) whole g)))))
+
+    pub served-step : (r b : List ℕ) → firstFailing (requestRefusals r (length b)) ≡ none → step d (request g r b) ≡ (record { answer = Served; buffer = handled d g (asked r) .status ∷ 0 ∷ 0 ∷ 0 ∷ [] }, handled d g (asked r) .left)
+    served-step r b f =
+        sound-step d (request g r b) (unfold configOf in l) h
+        ∙ unfold caller rules.worked work rule requested in
+        rw f (ap (λ (x : Worked). (record { answer = Served; buffer = x .status ∷ 0 ∷ 0 ∷ 0 ∷ [] }, x .left)) (sym (handle-step r)))

@@ -1,0 +1,15 @@
+// What a call does on the by-value state and the lent words, and what it gives back. There is no function here.
+use rules::Answer;
+use rules::State;
+
+// What a call gives back: its answer, and the next state.
+pub struct Given {
+    pub answer: Answer,
+    pub state: State,
+}
+
+// A request's status, and the state that it leaves.
+pub struct Handled {
+    pub status: u8,
+    pub state: State,
+}

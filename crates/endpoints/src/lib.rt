@@ -1,0 +1,119 @@
+// ATTACH, DETACH and a guest's reset, on the state's arrays and the table's words.
+pub mod moves;
+
+ghost use mathlib.Core.Path.{_≡_};
+ghost use mathlib.Core.Bool.{_&&_};
+ghost use mathlib.Core.List.{[], _∷_};
+ghost use lib.Dec.{ltb, eqb};
+ghost use lib.ListN.{getD};
+ghost use Rattle.rules.specs.Handlers.{outside};
+ghost use Rattle.effects.specs.Flat.{device, firstOf, attachStatus, attachFlat, detachStatus, detachFlat, resetFlat};
+ghost use Rattle.effects.specs.Outcome.{outcome};
+use effects::Handled;
+use rules::Domain;
+use rules::Endpoint;
+use rules::Guest;
+use rules::State;
+
+// Whether the endpoint at place i is among the first n and guest g's.
+fn owned_at(n: usize, owners: &[u8], g: Guest, i: usize) -> bool
+    ensures { λ r. ⌜ r ≡ ltb i n && eqb (getD (now (owners .entry)) i 0) (g .0) ⌝ }
+{
+    if owners.len() <= i {
+        return (i < n) & (0 == g.0);
+    }
+    (i < n) & (owners[i] == g.0)
+}
+
+// Whether x lies outside the numbers from a to b.
+fn is_outside(a: u32, b: u32, x: u32) -> bool
+    ensures { λ r. ⌜ r ≡ outside a b x ⌝ }
+{
+    (x < a) | (b < x)
+}
+
+// The status of the first of three steps that fails.
+fn first_of(a: bool, x: u8, b: bool, y: u8, c: bool, z: u8) -> u8
+    ensures { λ r. ⌜ r ≡ firstOf ((a, x) ∷ (b, y) ∷ (c, z) ∷ []) ⌝ }
+{
+    if a {
+        return x;
+    }
+    if b {
+        return y;
+    }
+    if c {
+        return z;
+    }
+    0
+}
+
+// The status of an ATTACH of the endpoint at place i.
+fn attach_status(s: State, g: Guest, d: Domain, i: usize, reserved: u64) -> u8
+    ensures { λ r. ⌜ r ≡ attachStatus s g d i reserved ⌝ }
+{
+    let settings = s.settings;
+    let owned = owned_at(s.listed, &s.owners, g, i);
+    let beyond = is_outside(settings.domains.start, settings.domains.end, d.0);
+    first_of(reserved != 0, 4, !owned, 6, beyond, 5)
+}
+
+// ATTACH: the endpoint e to domain d.
+pub fn attach(s: State, t: &mut [u64], g: Guest, d: Domain, e: Endpoint, reserved: u64) -> Handled
+    ensures { λ r. ⌜ outcome r (now (t .exit)) ≡ attachFlat (device s (now (t .entry))) g d e reserved ⌝ }
+{
+    let i = state::search::place_of(s.listed, &s.endpoints, e);
+    let status = attach_status(s, g, d, i, reserved);
+    if status != 0 {
+        return Handled { status, state: s };
+    }
+    let next = moves::move_to(s, t, g, i, d);
+    Handled {
+        status: 0,
+        state: next,
+    }
+}
+
+// Whether the endpoint at place i is attached to domain d.
+fn is_in(s: State, i: usize, d: Domain) -> bool
+    ensures { λ r. ⌜ r ≡ eqb (getD (s .attached) i 0) 1 && eqb (getD (s .domains) i 0) (d .0) ⌝ }
+{
+    if 32 <= i {
+        return false;
+    }
+    (s.attached[i] == 1) & (s.domains[i] == d.0)
+}
+
+// The status of a DETACH of the endpoint at place i.
+fn detach_status(s: State, g: Guest, d: Domain, i: usize, reserved: u64) -> u8
+    ensures { λ r. ⌜ r ≡ detachStatus s g d i reserved ⌝ }
+{
+    let owned = owned_at(s.listed, &s.owners, g, i);
+    let there = is_in(s, i, d);
+    first_of(reserved != 0, 4, !owned, 6, !there, 4)
+}
+
+// DETACH: the endpoint e from domain d.
+pub fn detach(s: State, t: &mut [u64], g: Guest, d: Domain, e: Endpoint, reserved: u64) -> Handled
+    ensures { λ r. ⌜ outcome r (now (t .exit)) ≡ detachFlat (device s (now (t .entry))) g d e reserved ⌝ }
+{
+    let i = state::search::place_of(s.listed, &s.endpoints, e);
+    let status = detach_status(s, g, d, i, reserved);
+    if status != 0 {
+        return Handled { status, state: s };
+    }
+    let next = moves::leave(s, t, g, i, d);
+    Handled {
+        status: 0,
+        state: next,
+    }
+}
+
+// Reset: the guest's endpoints detached, its records gone, its log empty, its lost count 0.
+pub fn reset(s: State, t: &mut [u64], g: Guest) -> State
+    ensures { λ r. ⌜ device r (now (t .exit)) ≡ resetFlat (device s (now (t .entry))) g ⌝ }
+{
+    let next = state::faults::clear_guest(s, g);
+    let low = (g.0 as u64) * 4294967296;
+    moves::remove(next, t, low, low + 4294967295, 0, moves::TOP_ADDRESS)
+}

@@ -1,0 +1,20 @@
+-- `viommu::queries::viommu_lost` meets its contract. Assumes nothing.
+use Prim.Native.Nat.{_≤_}
+use mathlib.Core.Path.{_≡_, sym}
+use native.Mathlib.Omega.{arith}
+use borrow.Author.Needs.{needs}
+use lib.ListN.{length, List·getD-eq-default}
+use Rattle.viommu.proofs.queries.viommu_lost.Statement.{statement}
+use Rattle.viommu.proofs.queries.viommu_lost.Tie as tie
+
+size : (c : tie.Start) → length (c .args .t1 .lost) ≡ 4
+size c = search needs
+
+returns : tie.Need-returns
+returns c =
+    let s = c .before .before in
+    let past : length (s .args .t1 .lost) ≤ s .args .g .0 = omega (arith, size s, c .if1 .taken) in
+    sym (List·getD-eq-default (s .args .t1 .lost) 0 past)
+
+pub viommu-lost-spec : {M : Type 1} → statement M
+viommu-lost-spec = tie.close (tie.spec (λ c. search needs) returns (λ c. search needs) (λ c. search needs) (λ c. search needs))

@@ -1,0 +1,141 @@
+// The entries for the hypervisor, which is written in C: document 01's numbers, and structs by value.
+pub mod numbers;
+pub mod queries;
+
+ghost use mathlib.Core.Path.{_≡_};
+ghost use Rattle.rules.specs.Answers.{number, usedLength, addressOf, fetchedCount};
+ghost use Rattle.rules.specs.Device as rules;
+ghost use Rattle.effects.specs.Flat.{device};
+ghost use Rattle.effects.specs.Setting.{configured};
+use device::calls;
+use device::requests;
+use device::resetting;
+use rules::Endpoint;
+use rules::Guest;
+use rules::Settings;
+use rules::State;
+
+// A set-up's number and state.
+#[repr(C)]
+pub struct SetUpGiven {
+    pub number: u8,
+    pub state: State,
+}
+
+// A request's number, used length and next state.
+#[repr(C)]
+pub struct RequestGiven {
+    pub number: u8,
+    pub used: usize,
+    pub state: State,
+}
+
+// An access's number, address and next state.
+#[repr(C)]
+pub struct AccessGiven {
+    pub number: u8,
+    pub address: u64,
+    pub state: State,
+}
+
+// A reset's number and next state.
+#[repr(C)]
+pub struct ResetGiven {
+    pub number: u8,
+    pub state: State,
+}
+
+// A fetch's number, count and next state.
+#[repr(C)]
+pub struct FetchGiven {
+    pub number: u8,
+    pub count: usize,
+    pub state: State,
+}
+
+#[no_mangle]
+pub extern "C" fn viommu_set_up(
+    settings: Settings,
+    endpoints: &[u32],
+    owners: &[u8],
+    t: &mut [u64],
+) -> SetUpGiven
+    ensures { λ r. ⌜ (r .number ≡ number (rules.setUp (configured settings (now (endpoints .entry)) (now (owners .entry))) (now (t .entry)) .answer)) × (device (r .state) (now (t .exit)) ≡ rules.setUp (configured settings (now (endpoints .entry)) (now (owners .entry))) (now (t .entry)) .device) ⌝ }
+{
+    let given = setup::set_up(settings, endpoints, owners, t);
+    let answer = given.answer;
+    let next = given.state;
+    SetUpGiven {
+        number: numbers::number_of(answer),
+        state: next,
+    }
+}
+
+#[no_mangle]
+pub extern "C" fn viommu_request(
+    s: State,
+    t: &mut [u64],
+    g: Guest,
+    readable: &[u8],
+    writable: &mut [u8],
+) -> RequestGiven
+    ensures { λ r. ⌜ (r .number ≡ number (rules.step (device s (now (t .entry))) (rules.request g (now (readable .entry)) (now (writable .entry))) .0 .answer)) × (r .used ≡ usedLength (rules.step (device s (now (t .entry))) (rules.request g (now (readable .entry)) (now (writable .entry))) .0 .answer)) ⌝ }
+    ensures { λ r. ⌜ (device (r .state) (now (t .exit)) ≡ rules.step (device s (now (t .entry))) (rules.request g (now (readable .entry)) (now (writable .entry))) .1) × (now (writable .exit) ≡ rules.step (device s (now (t .entry))) (rules.request g (now (readable .entry)) (now (writable .entry))) .0 .buffer) ⌝ }
+{
+    let given = requests::request(s, t, g, readable, writable);
+    let answer = given.answer;
+    let next = given.state;
+    RequestGiven {
+        number: numbers::number_of(answer),
+        used: numbers::used_of(answer),
+        state: next,
+    }
+}
+
+#[no_mangle]
+pub extern "C" fn viommu_access(
+    s: State,
+    t: &[u64],
+    e: Endpoint,
+    address: u64,
+    kind: u8,
+) -> AccessGiven
+    ensures { λ r. ⌜ (r .number ≡ number (rules.step (device s (now (t .entry))) (rules.access-by e address kind) .0 .answer)) × (r .address ≡ addressOf (rules.step (device s (now (t .entry))) (rules.access-by e address kind) .0 .answer)) × (device (r .state) (now (t .entry)) ≡ rules.step (device s (now (t .entry))) (rules.access-by e address kind) .1) ⌝ }
+{
+    let given = calls::access(s, t, e, address, kind);
+    let answer = given.answer;
+    let next = given.state;
+    AccessGiven {
+        number: numbers::number_of(answer),
+        address: numbers::address_of(answer),
+        state: next,
+    }
+}
+
+#[no_mangle]
+pub extern "C" fn viommu_reset(s: State, t: &mut [u64], g: Guest) -> ResetGiven
+    ensures { λ r. ⌜ (r .number ≡ number (rules.step (device s (now (t .entry))) (rules.reset-of g) .0 .answer)) × (device (r .state) (now (t .exit)) ≡ rules.step (device s (now (t .entry))) (rules.reset-of g) .1) ⌝ }
+{
+    let given = resetting::reset(s, t, g);
+    let answer = given.answer;
+    let next = given.state;
+    ResetGiven {
+        number: numbers::number_of(answer),
+        state: next,
+    }
+}
+
+#[no_mangle]
+pub extern "C" fn viommu_fetch(s: State, t: &[u64], g: Guest, buffer: &mut [u8]) -> FetchGiven
+    ensures { λ r. ⌜ (r .number ≡ number (rules.step (device s (now (t .entry))) (rules.fetch-for g (now (buffer .entry))) .0 .answer)) × (r .count ≡ fetchedCount (rules.step (device s (now (t .entry))) (rules.fetch-for g (now (buffer .entry))) .0 .answer)) ⌝ }
+    ensures { λ r. ⌜ (device (r .state) (now (t .entry)) ≡ rules.step (device s (now (t .entry))) (rules.fetch-for g (now (buffer .entry))) .1) × (now (buffer .exit) ≡ rules.step (device s (now (t .entry))) (rules.fetch-for g (now (buffer .entry))) .0 .buffer) ⌝ }
+{
+    let given = calls::fetch(s, t, g, buffer);
+    let answer = given.answer;
+    let next = given.state;
+    FetchGiven {
+        number: numbers::number_of(answer),
+        count: numbers::count_of(answer),
+        state: next,
+    }
+}
