@@ -1,0 +1,284 @@
+/*
+ * The device side of virtio-iommu, for a hypervisor written in C (C99 or later) or C++.
+ *
+ * One device serves one to four guests over one mapping table. The hypervisor keeps two things for it:
+ *
+ *   - the state, a struct viommu_state. It is a value: each call takes the state and gives the next one back, and the
+ *     caller hands that one in next time. The state that was handed in is copied, so it is never changed in place.
+ *   - the table, VIOMMU_TABLE_WORDS words of 64 bits. It is lent for the length of a call. Some calls rewrite it.
+ *
+ * State and table belong together: hand in the state and the table as the last call left them. They need no release.
+ *
+ * WHAT A CALL KEEPS TO
+ *
+ *   - Nothing is kept between calls: no pointer, no global, no memory of the library's own.
+ *   - Each call ends. None waits, takes a lock, allocates memory, does input or output, or calls back.
+ *   - A parameter that is a pointer to const is only read. No call reads or writes outside what it was lent.
+ *   - Any numbers at all may stand in state, table and buffers: what is not sound or not a request is refused.
+ *
+ * WHAT THE CALLER KEEPS TO
+ *
+ *   - A list or a buffer is a pointer, then a count of ELEMENTS (words of the table, bytes of a buffer), not of bytes.
+ *   - Every pointer is not null and is aligned for its element, also where the count is 0: then any such pointer will do,
+ *     for instance that of an unused array, and nothing is read or written through it.
+ *   - The buffers of one call do not overlap: neither with each other, nor with the table.
+ *   - Nobody else writes to what is lent while the call runs, a guest neither: gather a request out of guest memory first.
+ *   - Calls on one table do not run at the same time. Calls on different tables may.
+ *   - 32 KiB of stack are free: the state crosses by value and is copied on the way. (Measured by tests/c/stack.c.)
+ *
+ * The archive is code for x86-64 Linux by the System V ABI. It uses the SSE registers and the red zone below the stack
+ * pointer, and needs no symbol but C's memcpy, memmove, memset and memcmp.
+ *
+ * The rules of set-up, requests, accesses and faults are document 01's. "Sound" and "good" below are its terms.
+ */
+#ifndef VIOMMU_H
+#define VIOMMU_H
+
+#include <stddef.h>
+#include <stdint.h>
+
+/* SIZES */
+
+#define VIOMMU_GUESTS 4          /* guests at most, numbers 0 to 3 */
+#define VIOMMU_ENDPOINTS 32      /* endpoints at most, of all guests together */
+#define VIOMMU_RECORDS 256       /* mapping records that the table has room for */
+#define VIOMMU_RECORD_WORDS 5    /* words of a mapping record */
+#define VIOMMU_TABLE_WORDS 1280  /* words of the table: VIOMMU_RECORDS times VIOMMU_RECORD_WORDS */
+#define VIOMMU_FAULTS 16         /* faults that a guest's log has room for */
+#define VIOMMU_FAULT_PLACES 64   /* places of all logs: VIOMMU_GUESTS times VIOMMU_FAULTS */
+#define VIOMMU_FAULT_BYTES 24    /* bytes of a fetched fault */
+#define VIOMMU_LOST_LIMIT 65535  /* where a lost count stops */
+
+/* NUMBERS: what a call gives back, and what it leaves behind */
+
+#define VIOMMU_DONE 0               /* done */
+#define VIOMMU_NO_SUCH_GUEST 1      /* guest number not below the guest count: nothing changes */
+#define VIOMMU_UNSOUND 2            /* table not of 1,280 words, or state and table not sound: nothing changes */
+#define VIOMMU_UNKNOWN_TYPE 3       /* request type not 1 to 4: nothing changes */
+#define VIOMMU_WRONG_LENGTH 4       /* readable part below 4 bytes, or a part's length not the type's: nothing changes */
+#define VIOMMU_BAD_CONFIGURATION 5  /* configuration not good: table untouched, every number of the state is zero */
+#define VIOMMU_UNKNOWN_ENDPOINT 6   /* access by an endpoint not listed: nothing changes */
+#define VIOMMU_UNATTACHED 7         /* access blocked, endpoint unattached: fault logged */
+#define VIOMMU_UNMAPPED 8           /* access blocked, no mapping permits it: fault logged */
+
+/* REQUESTS: the type is the first byte of the readable part, the status the first of the writable part */
+
+#define VIOMMU_ATTACH 1
+#define VIOMMU_DETACH 2
+#define VIOMMU_MAP 3
+#define VIOMMU_UNMAP 4
+
+#define VIOMMU_STATUS_OK 0
+#define VIOMMU_STATUS_IOERR 1   /* virtio's, never given by this device */
+#define VIOMMU_STATUS_UNSUPP 2  /* virtio's, never given by this device */
+#define VIOMMU_STATUS_DEVERR 3  /* virtio's, never given by this device */
+#define VIOMMU_STATUS_INVAL 4
+#define VIOMMU_STATUS_RANGE 5
+#define VIOMMU_STATUS_NOENT 6
+#define VIOMMU_STATUS_FAULT 7
+#define VIOMMU_STATUS_NOMEM 8
+
+/* ACCESSES AND FAULTS */
+
+#define VIOMMU_READ 0   /* the kind of an access: 0 is a read */
+#define VIOMMU_WRITE 1  /* and any other value a write */
+
+#define VIOMMU_REASON_DOMAIN 1   /* a fault's reason: the endpoint was unattached */
+#define VIOMMU_REASON_MAPPING 2  /* or no mapping permitted the access */
+
+#define VIOMMU_FLAG_READ 1       /* of a mapping: reads go through; of a fault: it was a read */
+#define VIOMMU_FLAG_WRITE 2      /* of a mapping: writes go through; of a fault: it was a write */
+#define VIOMMU_FLAG_ADDRESS 256  /* of a fault: the address is given (always) */
+
+#ifdef __cplusplus
+extern "C" {
+#endif
+
+/* Guest and endpoint numbers are types of their own, so that the compiler refuses one for the other. */
+struct viommu_guest {
+    uint8_t number;
+};
+
+struct viommu_endpoint {
+    uint32_t number;
+};
+
+/* The addresses, or the domain numbers, from start to end, both included. */
+struct viommu_input_range {
+    uint64_t start;
+    uint64_t end;
+};
+
+struct viommu_domain_range {
+    uint32_t start;
+    uint32_t end;
+};
+
+/*
+ * What set-up takes besides the endpoint lists. Guest g may hold shares[g] records, and its window is firsts[g] to
+ * lasts[g], both included. Places from the guest count on are not looked at.
+ */
+struct viommu_settings {
+    size_t guests;                      /* the guest count, 1 to 4 */
+    uint32_t shares[VIOMMU_GUESTS];     /* together at most VIOMMU_RECORDS; 0 is allowed */
+    uint64_t firsts[VIOMMU_GUESTS];
+    uint64_t lasts[VIOMMU_GUESTS];
+    uint64_t mask;                      /* page_size_mask, not 0: its lowest set bit is the granularity of MAP */
+    struct viommu_input_range input;    /* the addresses that a MAP may name */
+    struct viommu_domain_range domains; /* the domains that an ATTACH may name */
+};
+
+/*
+ * The device's state. The hypervisor keeps and copies it as it likes, may read it, and has no need to write it: a state
+ * that was written by hand is taken if it is sound with its table, and is else refused with VIOMMU_UNSOUND.
+ *
+ * Endpoint i, below listed, has its number, owner, attached flag and domain at place i of four arrays. Fault j of guest g,
+ * the oldest being fault 0, has its fields at place VIOMMU_FAULTS * g + j of four arrays. Places not in use are zero.
+ */
+struct viommu_state {
+    struct viommu_settings settings;        /* as set-up took them, zero in places of guests that there are not */
+    size_t listed;                          /* number of endpoints */
+    uint32_t endpoints[VIOMMU_ENDPOINTS];   /* endpoint numbers */
+    uint8_t owners[VIOMMU_ENDPOINTS];       /* their guests */
+    uint8_t attached[VIOMMU_ENDPOINTS];     /* 1 attached, 0 not */
+    uint32_t domains[VIOMMU_ENDPOINTS];     /* the domain, 0 where unattached */
+    size_t live;                            /* number of records in the table, which stand first */
+    size_t logged[VIOMMU_GUESTS];           /* number of faults in each guest's log */
+    uint32_t lost[VIOMMU_GUESTS];           /* faults that found a guest's log full */
+    uint8_t reasons[VIOMMU_FAULT_PLACES];   /* VIOMMU_REASON_.. */
+    uint32_t flags[VIOMMU_FAULT_PLACES];    /* VIOMMU_FLAG_.. */
+    uint32_t sources[VIOMMU_FAULT_PLACES];  /* endpoint numbers */
+    uint64_t addresses[VIOMMU_FAULT_PLACES];
+};
+
+/* What each call gives back: a number of the list above, a value that is 0 on any number but 0, and the next state. */
+struct viommu_set_up_given {
+    uint8_t number;
+    struct viommu_state state;
+};
+
+struct viommu_request_given {
+    uint8_t number;
+    size_t used; /* used length: bytes written into the writable part */
+    struct viommu_state state;
+};
+
+struct viommu_access_given {
+    uint8_t number;
+    uint64_t address; /* where the access goes through to */
+    struct viommu_state state;
+};
+
+struct viommu_reset_given {
+    uint8_t number;
+    struct viommu_state state;
+};
+
+struct viommu_fetch_given {
+    uint8_t number;
+    size_t count; /* number of faults written into the buffer */
+    struct viommu_state state;
+};
+
+/*
+ * The bytes of a request's readable part, by its type byte: 20 for ATTACH and DETACH, 36 for MAP, 28 for UNMAP, 0 for
+ * any other type. To be asked before a buffer is gathered.
+ */
+size_t viommu_readable_length(uint8_t type);
+
+/* The bytes of a request's writable part, by its type byte: 4 for types 1 to 4, 0 for any other. */
+size_t viommu_writable_length(uint8_t type);
+
+/*
+ * Sets a device up: endpoint endpoints[i] belongs to guest owners[i]. The two lists are only read, and their counts are to
+ * be equal and at most VIOMMU_ENDPOINTS; lists of count 0 are good. The table may hold anything.
+ *
+ *   VIOMMU_DONE               the table is all zero; in the state all endpoints are unattached, logs are empty
+ *   VIOMMU_UNSOUND            table_words is not VIOMMU_TABLE_WORDS: table untouched, every number of the state is zero
+ *   VIOMMU_BAD_CONFIGURATION  table untouched, every number of the state is zero
+ *
+ * The first that applies, in the order 2, 5, 0. On the all-zero state requests, resets and fetches get 1, and accesses 2.
+ */
+struct viommu_set_up_given viommu_set_up(struct viommu_settings settings,
+                                         const uint32_t *endpoints, size_t endpoint_count,
+                                         const uint8_t *owners, size_t owner_count,
+                                         uint64_t *table, size_t table_words);
+
+/*
+ * Works one request of a guest's. The readable part is only read.
+ *
+ *   VIOMMU_DONE           used is 4, and the writable part holds the status, then three zeros. With VIOMMU_STATUS_OK, state
+ *                         and table are as the request asked; with any other status they are unchanged
+ *   VIOMMU_NO_SUCH_GUEST, VIOMMU_UNSOUND, VIOMMU_UNKNOWN_TYPE, VIOMMU_WRONG_LENGTH
+ *                         used is 0; state, table and the writable part are unchanged
+ *
+ * The first that applies, in the order 1, 2, 4 (readable part below 4 bytes), 3, 4 (a length not the type's), 0.
+ */
+struct viommu_request_given viommu_request(struct viommu_state state,
+                                           uint64_t *table, size_t table_words,
+                                           struct viommu_guest guest,
+                                           const uint8_t *readable, size_t readable_bytes,
+                                           uint8_t *writable, size_t writable_bytes);
+
+/*
+ * Decides one access of a device: kind is VIOMMU_READ or VIOMMU_WRITE. The table is only read.
+ *
+ *   VIOMMU_DONE              address is where the access goes through to; the state is unchanged
+ *   VIOMMU_UNSOUND, VIOMMU_UNKNOWN_ENDPOINT
+ *                            address is 0; the state is unchanged
+ *   VIOMMU_UNATTACHED, VIOMMU_UNMAPPED
+ *                            address is 0; the state has one fault more in the log of the endpoint's owner, or, where that
+ *                            log is full, a lost count that is one higher, up to VIOMMU_LOST_LIMIT
+ *
+ * The first that applies, in the order 2, 6, 7, then 0 or 8.
+ */
+struct viommu_access_given viommu_access(struct viommu_state state,
+                                         const uint64_t *table, size_t table_words,
+                                         struct viommu_endpoint endpoint, uint64_t address, uint8_t kind);
+
+/*
+ * Resets a guest.
+ *
+ *   VIOMMU_DONE           the guest's endpoints are detached, its records gone from the table, its log empty, its lost
+ *                         count 0; nothing of another guest's changes
+ *   VIOMMU_NO_SUCH_GUEST, VIOMMU_UNSOUND
+ *                         state and table are unchanged
+ *
+ * The first that applies, in the order 1, 2, 0.
+ */
+struct viommu_reset_given viommu_reset(struct viommu_state state,
+                                       uint64_t *table, size_t table_words,
+                                       struct viommu_guest guest);
+
+/*
+ * Fetches the oldest faults of a guest's log: as many as there are and fit whole into the buffer. The table is only read.
+ *
+ *   VIOMMU_DONE           count faults stand at the buffer's start, VIOMMU_FAULT_BYTES each, oldest first, and are gone from
+ *                         the state's log; the buffer's bytes after them are unchanged, and so is the lost count
+ *   VIOMMU_NO_SUCH_GUEST, VIOMMU_UNSOUND
+ *                         count is 0; state and buffer are unchanged
+ *
+ * The first that applies, in the order 1, 2, 0. A fetched fault is little-endian: reason 1, zeros 3, flags 4, endpoint 4,
+ * zeros 4, address 8.
+ */
+struct viommu_fetch_given viommu_fetch(struct viommu_state state,
+                                       const uint64_t *table, size_t table_words,
+                                       struct viommu_guest guest,
+                                       uint8_t *buffer, size_t buffer_bytes);
+
+/*
+ * The number of records that a guest holds: its records among the first state.live of the table. Soundness is not tested,
+ * and no table is too short or too long: what does not make a whole record is not counted.
+ */
+size_t viommu_held(struct viommu_state state,
+                   const uint64_t *table, size_t table_words,
+                   struct viommu_guest guest);
+
+/* A guest's lost count, state.lost[guest.number]; 0 for a number that is VIOMMU_GUESTS or more. Soundness is not tested. */
+uint32_t viommu_lost(struct viommu_state state, struct viommu_guest guest);
+
+#ifdef __cplusplus
+}
+#endif
+
+#endif
