@@ -3,6 +3,7 @@
 use crate::device::Device;
 use crate::journal::{self, LineKind};
 use crate::numbers::Guest;
+use crate::sound::SoundnessTest;
 
 /// One line of the second program, with whose call it answers.
 pub struct PlayedLine {
@@ -38,7 +39,7 @@ impl Played {
 /// Plays a journal through the second program.
 pub fn play(journal: &[u8]) -> Played {
     let mut lines = Vec::new();
-    let device = journal::run(journal, |line| {
+    let device = journal::run(journal, SoundnessTest::EachCall, |line| {
         lines.push(PlayedLine { kind: line.kind, owner: line.owner, text: line.text.to_string() });
         Ok(())
     });

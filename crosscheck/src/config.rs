@@ -54,8 +54,8 @@ impl Configuration {
             && self.endpoints_are_good()
     }
 
-    /// The page granularity g: the lowest set bit of the mask, wide enough for sums up to 2^64.
-    pub fn granularity(&self) -> u128 {
+    /// The page granularity g: the lowest set bit of the mask, which is not zero.
+    pub fn granularity(&self) -> u64 {
         1 << self.page_size_mask.trailing_zeros()
     }
 
@@ -66,10 +66,9 @@ impl Configuration {
 
     /// Each window has first <= last, and no two share an address.
     fn windows_are_good(&self) -> bool {
-        let windows: Vec<_> = self.guests.iter().map(|guest| &guest.window).collect();
-        windows.iter().enumerate().all(|(place, window)| {
+        self.guests.iter().enumerate().all(|(place, GuestShare { window, .. })| {
             window.start() <= window.end()
-                && windows[..place].iter().all(|other| apart(window, other))
+                && self.guests[..place].iter().all(|other| apart(window, &other.window))
         })
     }
 
@@ -78,11 +77,16 @@ impl Configuration {
         let listed = &self.endpoints;
         listed.len() <= MOST_ENDPOINTS
             && listed.iter().enumerate().all(|(place, entry)| {
-                let earlier = &listed[..place];
-                entry.owner.place() < self.guests.len()
-                    && earlier.iter().all(|other| other.endpoint != entry.endpoint)
+                let earlier = listed[..place].iter().map(|other| other.endpoint);
+                entry.owner.place() < self.guests.len() && !is_among(entry.endpoint, earlier)
             })
     }
+}
+
+/// Whether the endpoint is one of these. Looks at all of them, which is faster than to stop at the
+/// first: the comparisons are made several at a time.
+pub(crate) fn is_among(endpoint: Endpoint, others: impl Iterator<Item = Endpoint>) -> bool {
+    others.fold(false, |found, other| found | (other == endpoint))
 }
 
 /// Whether two windows have no address in common.

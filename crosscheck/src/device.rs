@@ -4,6 +4,7 @@ use crate::answers::Refusal;
 use crate::config::Configuration;
 use crate::faults::FaultLog;
 use crate::numbers::{Domain, Endpoint, Guest};
+use crate::sound::SoundnessTest;
 use crate::table::{Mapping, MappingTable};
 
 pub struct Device {
@@ -13,6 +14,7 @@ pub struct Device {
     pub(crate) table: MappingTable,
     /// One log per guest.
     pub(crate) logs: Vec<FaultLog>,
+    pub(crate) soundness_test: SoundnessTest,
 }
 
 /// All that belongs to one guest, for comparing what two runs left it.
@@ -34,6 +36,7 @@ impl Device {
             table: MappingTable::default(),
             logs: vec![FaultLog::default(); configuration.guests.len()],
             configuration,
+            soundness_test: SoundnessTest::EachCall,
         })
     }
 
@@ -44,6 +47,7 @@ impl Device {
             attached: Vec::new(),
             table: MappingTable::default(),
             logs: Vec::new(),
+            soundness_test: SoundnessTest::EachCall,
         }
     }
 
@@ -100,16 +104,6 @@ impl Device {
             Ok(())
         } else {
             Err(Refusal::NoSuchGuest)
-        }
-    }
-
-    /// The calls keep a sound state sound, so the only unsound one is that of a refused set-up,
-    /// which has no guest.
-    pub(crate) fn check_sound(&self) -> Result<(), Refusal> {
-        if self.configuration.guests.is_empty() {
-            Err(Refusal::NotSound)
-        } else {
-            Ok(())
         }
     }
 }

@@ -60,7 +60,7 @@ impl Fault {
 /// One guest's faults, oldest first, and how many were dropped because it was full.
 #[derive(Clone, Debug, Default, PartialEq, Eq)]
 pub struct FaultLog {
-    faults: VecDeque<Fault>,
+    pub(crate) faults: VecDeque<Fault>,
     lost: u16,
 }
 

@@ -3,6 +3,7 @@
 use crate::device::Device;
 use crate::numbers::Guest;
 use crate::player::Player;
+use crate::sound::SoundnessTest;
 use std::io::{self, ErrorKind, Read};
 
 /// The kinds of record.
@@ -96,9 +97,13 @@ fn fill(input: &mut impl Read, buffer: &mut [u8]) -> io::Result<bool> {
 }
 
 /// Plays a journal, printing each line, and gives the device as the journal left it.
-pub fn run(input: impl Read, print: impl FnMut(Line) -> io::Result<()>) -> io::Result<Device> {
+pub fn run(
+    input: impl Read,
+    soundness_test: SoundnessTest,
+    print: impl FnMut(Line) -> io::Result<()>,
+) -> io::Result<Device> {
     let mut records = Records { input, offset: 0, body: [0; LONGEST_BODY] };
-    let mut player = Player::new(print);
+    let mut player = Player::new(soundness_test, print);
     loop {
         let at = records.offset;
         let Some(kind) = records.kind()? else {

@@ -19,4 +19,5 @@ pub mod random;
 pub mod record;
 pub mod requests;
 pub mod run;
+pub mod sound;
 pub mod table;

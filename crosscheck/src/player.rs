@@ -8,6 +8,7 @@ use crate::fields::Fields;
 use crate::journal::{self, Line, LineKind};
 use crate::numbers::{Endpoint, Guest};
 use crate::requests::WRITABLE_BYTES;
+use crate::sound::SoundnessTest;
 use std::fmt::{Arguments, Write};
 use std::io;
 
@@ -16,16 +17,18 @@ pub struct Player<P> {
     guests: Vec<GuestShare>,
     endpoints: Vec<ListedEndpoint>,
     device: Option<Device>,
+    soundness_test: SoundnessTest,
     text: String,
     print: P,
 }
 
 impl<P: FnMut(Line) -> io::Result<()>> Player<P> {
-    pub fn new(print: P) -> Self {
+    pub fn new(soundness_test: SoundnessTest, print: P) -> Self {
         Player {
             guests: Vec::new(),
             endpoints: Vec::new(),
             device: None,
+            soundness_test,
             text: String::new(),
             print,
         }
@@ -93,6 +96,7 @@ impl<P: FnMut(Line) -> io::Result<()>> Player<P> {
             domain_range: fields.u32()..=fields.u32(),
         });
         let number = number(&set_up);
+        let set_up = set_up.map(|device| device.with_test(self.soundness_test));
         self.device = Some(set_up.unwrap_or_else(|_| Device::zeroed()));
         self.say(LineKind::Start, None, format_args!("S {number}"))?;
         Ok(true)

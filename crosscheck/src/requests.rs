@@ -110,7 +110,7 @@ impl Device {
         if !self.domain_exists(guest, domain) {
             return Err(Status::Noent);
         }
-        if flags & !(READ | WRITE) != 0 {
+        if !flags_are_known(flags) {
             return Err(Status::Inval);
         }
         if !self.range_can_be_mapped(virt_start, virt_end) {
@@ -145,25 +145,25 @@ impl Device {
         Ok(())
     }
 
-    /// Steps 3 to 5 of MAP: more than one address, whole pages, inside the input range.
-    fn range_can_be_mapped(&self, virt_start: u64, virt_end: u64) -> bool {
-        let granularity = self.configuration.granularity();
+    /// Steps 3 to 5 of MAP: more than one address, whole pages, inside the input range. One more
+    /// than a number is a multiple of g when the number's bits below g are all set.
+    pub(crate) fn range_can_be_mapped(&self, virt_start: u64, virt_end: u64) -> bool {
+        let below_page = self.configuration.granularity() - 1;
         let input = &self.configuration.input_range;
         virt_start < virt_end
-            && u128::from(virt_start) % granularity == 0
-            && (u128::from(virt_end) + 1) % granularity == 0
-            && input.contains(&virt_start)
-            && input.contains(&virt_end)
+            && virt_start & below_page == 0
+            && virt_end & below_page == below_page
+            && *input.start() <= virt_start
+            && virt_end <= *input.end()
     }
 
-    /// Step 6 of MAP: first and last physical address lie in the guest's window, as whole
-    /// numbers, so a sum past 2^64 lies outside.
-    fn lands_in_window(&self, mapping: &Mapping) -> bool {
+    /// Step 6 of MAP, after step 3: first and last physical address lie in the guest's window.
+    /// The length is held against the room that is left, so no sum can pass 2^64.
+    pub(crate) fn lands_in_window(&self, mapping: &Mapping) -> bool {
         let window = &self.configuration.guests[mapping.guest.place()].window;
-        let window = u128::from(*window.start())..=u128::from(*window.end());
-        let first = u128::from(mapping.phys_start);
-        let last = first + u128::from(mapping.virt_end) - u128::from(mapping.virt_start);
-        window.contains(&first) && window.contains(&last)
+        *window.start() <= mapping.phys_start
+            && mapping.phys_start <= *window.end()
+            && mapping.virt_end - mapping.virt_start <= *window.end() - mapping.phys_start
     }
 
     /// The place of an endpoint of this guest; one of another guest looks like an unlisted one.
@@ -173,7 +173,7 @@ impl Device {
     }
 
     /// A domain exists for a guest while at least one of its endpoints is attached to it.
-    fn domain_exists(&self, guest: Guest, domain: Domain) -> bool {
+    pub(crate) fn domain_exists(&self, guest: Guest, domain: Domain) -> bool {
         let mut listed = self.configuration.endpoints.iter().zip(&self.attached);
         listed.any(|(entry, attached)| entry.owner == guest && *attached == Some(domain))
     }
@@ -185,6 +185,11 @@ impl Device {
             self.table.remove_domain(guest, domain);
         }
     }
+}
+
+/// Step 2 of MAP: no flag bit other than READ and WRITE.
+pub(crate) fn flags_are_known(flags: u32) -> bool {
+    flags & !(READ | WRITE) == 0
 }
 
 /// Endpoint 4, reserved 8.

@@ -35,7 +35,7 @@ impl Mapping {
 
 #[derive(Clone, Debug, Default, PartialEq, Eq)]
 pub struct MappingTable {
-    records: Vec<Mapping>,
+    pub(crate) records: Vec<Mapping>,
 }
 
 impl MappingTable {

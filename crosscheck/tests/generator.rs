@@ -75,6 +75,24 @@ fn a_seed_and_an_index_make_one_case() {
     assert_ne!(of_seed(5), of_seed(6));
 }
 
+/// The second program finds its own state sound before every call after an accepted start, so
+/// number 2 never comes; and a refused start leaves a state that is not sound.
+#[test]
+fn calls_keep_the_state_sound() {
+    for journal in (0..400).flat_map(|index| journals_of(case(8, index))) {
+        let played = play(&journal);
+        let Some(start) = played.lines.iter().position(|line| line.text.starts_with("S ")) else {
+            continue;
+        };
+        let accepted = played.lines[start].text == "S 0";
+        let calls = &played.lines[start + 1..];
+        let unsound =
+            calls.iter().any(|line| ["R 2 0 -", "A 2", "Z 2", "F 2"].contains(&&*line.text));
+        assert!(!(accepted && unsound));
+        assert_eq!(played.device.is_sound(), accepted);
+    }
+}
+
 #[test]
 fn pairs_share_the_set_up_and_one_guests_calls() {
     let (mut pairs, mut different, mut calls) = (0, 0, 0);

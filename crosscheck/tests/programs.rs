@@ -2,8 +2,10 @@
 
 use crosscheck::generate::{case, Case};
 use crosscheck::program::output_of;
+use std::io::Write;
 use std::path::Path;
-use std::process::{Command, Output};
+use std::process::{Command, Output, Stdio};
+use std::thread;
 
 const SECOND: &str = env!("CARGO_BIN_EXE_second");
 const CROSSCHECK: &str = env!("CARGO_BIN_EXE_crosscheck");
@@ -11,6 +13,18 @@ const MAKE_JOURNAL: &str = env!("CARGO_BIN_EXE_make_journal");
 
 fn run(program: &str, arguments: &[&str]) -> Output {
     Command::new(program).args(arguments).output().unwrap()
+}
+
+/// What a program prints with these arguments for a journal.
+fn fed(program: &str, arguments: &[&str], journal: &[u8]) -> Vec<u8> {
+    let mut command = Command::new(program);
+    let spawned = command.args(arguments).stdin(Stdio::piped()).stdout(Stdio::piped()).spawn();
+    let mut child = spawned.unwrap();
+    let mut input = child.stdin.take().unwrap();
+    thread::scope(|scope| {
+        scope.spawn(move || input.write_all(journal).unwrap());
+        child.wait_with_output().unwrap().stdout
+    })
 }
 
 fn last_line(output: &Output) -> String {
@@ -36,6 +50,18 @@ fn second_takes_a_journal_in_any_pieces() {
         for piece in [1, 7, 64] {
             assert_eq!(output_of(Path::new(SECOND), journal, piece).unwrap(), whole);
         }
+    }
+}
+
+/// Without the test of soundness at each call the lines are the same, since the calls keep a sound
+/// state sound; after a refused start it is not left out.
+#[test]
+fn second_prints_the_same_lines_on_trust() {
+    let refused_start = [&[0x03][..], &[0; 32], &[0x21], &[0; 13]].concat();
+    let long = run(MAKE_JOURNAL, &["5000", "16", "4"]).stdout;
+    for journal in [refused_start, long] {
+        let tested = fed(SECOND, &[], &journal);
+        assert_eq!(fed(SECOND, &["--trust"], &journal), tested);
     }
 }
 
@@ -75,6 +101,11 @@ fn wrong_arguments_are_told() {
     assert_eq!(run(CROSSCHECK, &["-", "1"]).status.code(), Some(2));
     assert_eq!(run(CROSSCHECK, &["-", "1", "many"]).status.code(), Some(2));
     assert_eq!(run(MAKE_JOURNAL, &["1", "257", "1"]).status.code(), Some(2));
+    for arguments in [&["--truth"][..], &["--trust", "--trust"], &[""]] {
+        let output = run(SECOND, arguments);
+        assert_eq!(output.status.code(), Some(2));
+        assert!(output.stdout.is_empty() && output.stderr.starts_with(b"usage: second"));
+    }
 }
 
 /// A made journal of so many records, the set-up's 21 among them, prints a line for the start,

@@ -1,6 +1,7 @@
 //! "One whole run", byte for byte in and byte for byte out.
 
 use crosscheck::journal;
+use crosscheck::sound::SoundnessTest;
 use std::io::{self, Read};
 
 /// The run's records in hex, written out by hand from "A journal is a run of records".
@@ -46,7 +47,7 @@ fn bytes_of(hex: &str) -> Vec<u8> {
 /// What is printed for an input, each line with its newline.
 fn printed(input: impl Read) -> String {
     let mut output = String::new();
-    journal::run(input, |line| {
+    journal::run(input, SoundnessTest::EachCall, |line| {
         output.push_str(line.text);
         output.push('\n');
         Ok(())
