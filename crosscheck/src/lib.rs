@@ -9,6 +9,7 @@ pub mod coverage;
 pub mod device;
 pub mod faults;
 pub mod fields;
+pub mod figures;
 pub mod generate;
 pub mod journal;
 pub mod long_journal;

@@ -48,11 +48,11 @@ impl LongJournal {
         let guest = self.random.below(GUESTS.into()) as u32;
         match self.random.below(2000) {
             0 => self.reset(guest),
-            1..=899 => self.hit(),
+            1..=899 => self.hit(guest),
             900..=1199 => self.miss(guest),
             1200..=1299 => self.unattached(guest),
             1300..=1319 => self.next.push_back(Record::read(Endpoint(7), PAGE)),
-            1320..=1559 => self.replace(),
+            1320..=1559 => self.replace(guest),
             1560..=1659 => self.spare_map(guest),
             1660..=1759 => self.refused(guest),
             1760..=1839 => self.next.extend(attachments(guest).pop()),
@@ -69,10 +69,11 @@ impl LongJournal {
         (self.live > 0).then(|| self.random.below(self.live.into()) as u32)
     }
 
-    /// An access to a live record, three in four of them reads; some records permit only those.
-    fn hit(&mut self) {
+    /// An access to a live record of any guest, three in four of them reads; some records permit
+    /// only those. Without live records it misses, for the guest given.
+    fn hit(&mut self, guest: u32) {
         let Some(slot) = self.slot() else {
-            return self.miss(0);
+            return self.miss(guest);
         };
         let address = first_address(slot) + self.random.below(PAGE);
         let access = if self.random.chance(75) { Record::read } else { Record::write };
@@ -92,9 +93,9 @@ impl LongJournal {
     }
 
     /// UNMAP and MAP of one slot; without live records both of a spare page.
-    fn replace(&mut self) {
+    fn replace(&mut self, guest: u32) {
         let Some(slot) = self.slot() else {
-            return self.spare_map(0);
+            return self.spare_map(guest);
         };
         let (guest, domain) = (Guest((slot % GUESTS) as u8), domain_of(slot / GUESTS % DOMAINS));
         let start = first_address(slot);
@@ -102,11 +103,12 @@ impl LongJournal {
         self.next.push_back(map(slot));
     }
 
-    /// MAP of a spare page, NOMEM when the share is used up, and its UNMAP.
+    /// MAP of a spare page, NOMEM when the share is used up, a read of it, and its UNMAP.
     fn spare_map(&mut self, guest: u32) {
         let virt = (SPARE_PAGE, SPARE_PAGE + PAGE - 1);
         let (number, domain) = (Guest(guest as u8), domain_of(0));
         self.next.push_back(Record::map(number, domain, virt, window(guest), 3));
+        self.next.push_back(Record::read(endpoint(guest, 0), SPARE_PAGE));
         self.next.push_back(Record::unmap(number, domain, virt));
     }
 
@@ -125,11 +127,13 @@ impl LongJournal {
         });
     }
 
-    /// Attaches the guest's last endpoint to a domain of its own and detaches it again.
+    /// Attaches the guest's last endpoint to a domain of its own, moves it to another, and
+    /// detaches it again.
     fn short_attachment(&mut self, guest: u32) {
-        let (number, domain) = (Guest(guest as u8), domain_of(DOMAINS));
-        self.next.push_back(Record::attach(number, domain, endpoint(guest, DOMAINS)));
-        self.next.push_back(Record::detach(number, domain, endpoint(guest, DOMAINS)));
+        let (number, last) = (Guest(guest as u8), endpoint(guest, DOMAINS));
+        self.next.push_back(Record::attach(number, domain_of(DOMAINS), last));
+        self.next.push_back(Record::attach(number, domain_of(DOMAINS + 1), last));
+        self.next.push_back(Record::detach(number, domain_of(DOMAINS + 1), last));
     }
 
     /// A reset, and then all that the guest had before.

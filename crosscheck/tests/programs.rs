@@ -1,4 +1,4 @@
-//! The three programs as they are run.
+//! The programs as they are run.
 
 use crosscheck::generate::{case, Case};
 use crosscheck::program::output_of;
@@ -10,6 +10,7 @@ use std::thread;
 const SECOND: &str = env!("CARGO_BIN_EXE_second");
 const CROSSCHECK: &str = env!("CARGO_BIN_EXE_crosscheck");
 const MAKE_JOURNAL: &str = env!("CARGO_BIN_EXE_make_journal");
+const MEASURE: &str = env!("CARGO_BIN_EXE_measure");
 
 fn run(program: &str, arguments: &[&str]) -> Output {
     Command::new(program).args(arguments).output().unwrap()
@@ -101,6 +102,9 @@ fn wrong_arguments_are_told() {
     assert_eq!(run(CROSSCHECK, &["-", "1"]).status.code(), Some(2));
     assert_eq!(run(CROSSCHECK, &["-", "1", "many"]).status.code(), Some(2));
     assert_eq!(run(MAKE_JOURNAL, &["1", "257", "1"]).status.code(), Some(2));
+    for arguments in [&["7", "1", "-"][..], &["7", "1", "-", "--"], &["0", "1", "-", "--", "x"]] {
+        assert_eq!(run(MEASURE, arguments).status.code(), Some(2));
+    }
     for arguments in [&["--truth"][..], &["--trust", "--trust"], &[""]] {
         let output = run(SECOND, arguments);
         assert_eq!(output.status.code(), Some(2));

@@ -1,0 +1,126 @@
+//! A device of the archive: the state that its calls hand on, and the table that they are lent.
+
+use crate::entries::{self, DomainRange, InputRange, Settings, State};
+use crosscheck::config::Configuration;
+use crosscheck::faults::Direction;
+use crosscheck::numbers::{Endpoint, Guest};
+
+/// The mapping table's words.
+const WORDS: usize = 1280;
+
+pub struct Archived {
+    state: State,
+    table: Vec<u64>,
+}
+
+impl Archived {
+    /// Sets up; the number must be 0.
+    pub fn set_up(configuration: &Configuration) -> Self {
+        let listed = &configuration.endpoints;
+        let endpoints: Vec<u32> = listed.iter().map(|entry| entry.endpoint.0).collect();
+        let owners: Vec<u8> = listed.iter().map(|entry| entry.owner.0).collect();
+        let mut table = vec![0; WORDS];
+        // SAFETY: each pointer is lent with the length of its list.
+        let given = unsafe {
+            entries::viommu_set_up(
+                settings(configuration),
+                endpoints.as_ptr(),
+                endpoints.len(),
+                owners.as_ptr(),
+                owners.len(),
+                table.as_mut_ptr(),
+                table.len(),
+            )
+        };
+        assert_eq!(given.number, 0, "set-up is refused");
+        Archived { state: given.state, table }
+    }
+
+    /// A request's number, used length and status byte.
+    pub fn request(&mut self, guest: Guest, readable: &[u8]) -> (u8, u64, u8) {
+        let mut writable = [0; 4];
+        // SAFETY: each pointer is lent with the length of its list.
+        let given = unsafe {
+            entries::viommu_request(
+                self.state,
+                self.table.as_mut_ptr(),
+                self.table.len(),
+                entries::Guest(guest.0),
+                readable.as_ptr(),
+                readable.len(),
+                writable.as_mut_ptr(),
+                writable.len(),
+            )
+        };
+        self.state = given.state;
+        (given.number, given.used as u64, writable[0])
+    }
+
+    /// An access's number and address.
+    pub fn access(&mut self, endpoint: Endpoint, address: u64, direction: Direction) -> (u8, u64) {
+        // SAFETY: the table is lent with its length.
+        let given = unsafe {
+            entries::viommu_access(
+                self.state,
+                self.table.as_ptr(),
+                self.table.len(),
+                entries::Endpoint(endpoint.0),
+                address,
+                (direction == Direction::Write).into(),
+            )
+        };
+        self.state = given.state;
+        (given.number, given.address)
+    }
+
+    /// A fetch's number and count.
+    pub fn fetch(&mut self, guest: Guest, buffer: &mut [u8]) -> (u8, u64) {
+        // SAFETY: each pointer is lent with the length of its list.
+        let given = unsafe {
+            entries::viommu_fetch(
+                self.state,
+                self.table.as_ptr(),
+                self.table.len(),
+                entries::Guest(guest.0),
+                buffer.as_mut_ptr(),
+                buffer.len(),
+            )
+        };
+        self.state = given.state;
+        (given.number, given.count as u64)
+    }
+
+    /// The state by itself.
+    pub fn state(&self) -> State {
+        self.state
+    }
+
+    /// The records that are live.
+    pub fn live(&self) -> usize {
+        self.state.live
+    }
+
+    /// The faults that all logs hold.
+    pub fn logged(&self) -> usize {
+        self.state.logged.iter().sum()
+    }
+}
+
+fn settings(configuration: &Configuration) -> Settings {
+    let (input, domains) = (&configuration.input_range, &configuration.domain_range);
+    let mut settings = Settings {
+        guests: configuration.guests.len(),
+        shares: [0; 4],
+        firsts: [0; 4],
+        lasts: [0; 4],
+        mask: configuration.page_size_mask,
+        input: InputRange { start: *input.start(), end: *input.end() },
+        domains: DomainRange { start: *domains.start(), end: *domains.end() },
+    };
+    for (place, guest) in configuration.guests.iter().enumerate() {
+        settings.shares[place] = guest.share.into();
+        settings.firsts[place] = *guest.window.start();
+        settings.lasts[place] = *guest.window.end();
+    }
+    settings
+}

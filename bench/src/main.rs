@@ -1,0 +1,130 @@
+//! Times one call on equal states: the archive's through C, and the second program's.
+//!
+//! An access by an endpoint that is not listed does little else than test that state and table are
+//! sound; so does a fetch into an empty buffer, which changes nothing either. The archive's calls
+//! take the state by value and give it back; that copying is counted in, and how long it takes by
+//! itself is printed first.
+
+mod answers;
+mod archived;
+mod entries;
+mod setting;
+
+use answers::{of_archive, of_second, Answer};
+use archived::Archived;
+use crosscheck::device::Device;
+use crosscheck::figures::Spread;
+use crosscheck::numbers::Guest;
+use crosscheck::record::Record;
+use std::hint::black_box;
+use std::time::Instant;
+
+const ROUNDS: usize = 31;
+/// The calls of one round, and of the parts of it that are timed: so short that most of them are
+/// not broken off by other work of the machine.
+const CALLS: usize = 4096;
+const PART: usize = 128;
+const LIVE: [u32; 3] = [0, 16, 256];
+/// A stride that visits the live records in an order without a simple pattern of places.
+const STRIDE: usize = 97;
+
+fn main() {
+    println!("One call in nanoseconds, medians (10 % to 90 %) of {ROUNDS} rounds, both in turn;");
+    println!("32 endpoints, all attached. A ratio above 1: the archive is faster.");
+    println!("  a state handed over by value and back: {}", handing_over());
+    for live in LIVE {
+        println!("{live} live records:");
+        let mut devices = Devices::with_live(live);
+        let unlisted = spread(&[setting::unlisted()]);
+        let fetches = spread(&[Record::Fetch { guest: Guest(0), asked: 0 }]);
+        devices.report("empty logs, access of an unlisted endpoint", 6, &unlisted);
+        devices.report("empty logs, fetch of 0 bytes", 0, &fetches);
+        devices.fill_logs();
+        devices.report("full logs, access of an unlisted endpoint", 6, &unlisted);
+        devices.report("full logs, fetch of 0 bytes", 0, &fetches);
+        devices.report("full logs, access blocked", 8, &spread(&setting::misses()));
+        if live > 0 {
+            devices.report("full logs, access through", 0, &spread(&setting::hits(live)));
+        }
+    }
+}
+
+/// As many calls as a round has, from these again and again.
+fn spread(calls: &[Record]) -> Vec<Record> {
+    (0..CALLS).map(|place| calls[place * STRIDE % calls.len()].clone()).collect()
+}
+
+/// Two devices in the same state.
+struct Devices {
+    archived: Archived,
+    second: Device,
+}
+
+impl Devices {
+    /// Sets up both and brings them to so many live records by the same calls.
+    fn with_live(live: u32) -> Self {
+        let configuration = setting::configuration();
+        let archived = Archived::set_up(&configuration);
+        let second = Device::set_up(configuration).expect("a good configuration");
+        let mut devices = Devices { archived, second };
+        for call in setting::calls(live) {
+            devices.ask_both(&call);
+        }
+        assert_eq!((devices.archived.live(), devices.archived.logged()), (live as usize, 0));
+        devices
+    }
+
+    /// Fills all four logs.
+    fn fill_logs(&mut self) {
+        for call in setting::misses() {
+            self.ask_both(&call);
+        }
+        assert_eq!(self.archived.logged(), 64);
+    }
+
+    /// The answer of both, which is the same.
+    fn ask_both(&mut self, call: &Record) -> Answer {
+        let answer = of_archive(&mut self.archived, call);
+        assert_eq!(answer, of_second(&mut self.second, call), "{call:?}");
+        answer
+    }
+
+    /// Asserts that both give this number to every call, then times them in turn.
+    fn report(&mut self, name: &str, number: u8, calls: &[Record]) {
+        for call in calls {
+            assert_eq!(self.ask_both(call).0, number, "{call:?}");
+        }
+        let (mut archive, mut second) = (Vec::new(), Vec::new());
+        for part in (0..ROUNDS).flat_map(|_| calls.chunks(PART)) {
+            archive.push(time(part, |call| of_archive(&mut self.archived, call)));
+            second.push(time(part, |call| of_second(&mut self.second, call)));
+        }
+        let (archive, second) = (Spread::of(&archive), Spread::of(&second));
+        let ratio = second.median / archive.median;
+        println!("  {name}: archive {archive}, second {second}, ratio {ratio:.2}");
+    }
+}
+
+/// The nanoseconds of one call, over all of them.
+fn time<C, A>(calls: &[C], mut ask: impl FnMut(&C) -> A) -> f64 {
+    let start = Instant::now();
+    for call in calls {
+        black_box(ask(call));
+    }
+    start.elapsed().as_nanos() as f64 / calls.len() as f64
+}
+
+/// A fetch that does nothing but take the state and give it back.
+extern "C" fn hand_back(state: entries::State) -> entries::FetchGiven {
+    entries::FetchGiven { number: 0, count: 0, state }
+}
+
+/// The nanoseconds of such a fetch, with the state put back in its place as after any call.
+fn handing_over() -> Spread {
+    let mut state = Archived::set_up(&setting::configuration()).state();
+    let entry: extern "C" fn(entries::State) -> entries::FetchGiven = black_box(hand_back);
+    let fetch = |state: &mut entries::State| *state = entry(*state).state;
+    let times: Vec<f64> =
+        (0..ROUNDS).map(|_| time(&[(); CALLS], |()| fetch(black_box(&mut state)))).collect();
+    Spread::of(&times)
+}
