@@ -4,7 +4,7 @@
 set -euo pipefail
 
 # The crates whose archives have the entries for C.
-crates=(device wire)
+crates=(viommu)
 
 cd "$(dirname "${BASH_SOURCE[0]}")/.."
 out=target/c
