@@ -16,7 +16,7 @@ use rules::State;
 const TABLE_WORDS: usize = 1280;
 
 // The state with every number zero.
-fn zero_state() -> State
+pub fn zero_state() -> State
     ensures { λ r. ⌜ r ≡ zeroState ⌝ }
 {
     State {

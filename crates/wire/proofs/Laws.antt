@@ -10,7 +10,7 @@ use native.Mathlib.Omega.{arith}
 use lib.Dec.{leb, eqb}
 use lib.ListN.{length, getD, take, drop, set, drop-of-length-le}
 use lib.Seq.{drop-cons, take-length, paste-suc}
-use borrow.Author.Tests.{le-ltb, le-leb}
+use borrow.Author.Tests.{le-ltb, le-leb, lt-leb}
 use Rattle.laws.specs.Bytes.{field}
 use Rattle.rules.specs.declared.Fault.{Fault}
 use Rattle.rules.specs.Access.{faultBytes}
@@ -87,3 +87,11 @@ by-lengths r n m w l low high e f b t =
     go true true = refl
     go true false = refl
     go false q = refl
+
+-- a field that does not fit: what `field_at` ensures of it
+pub no-field : (k n l x : ℕ) → n ≤ 8 → l < k + n → cond (leb n 8 && leb (k + n) l) x 0 ≡ 0
+no-field k n l x a b = rw (le-leb n 8 a, lt-leb (k + n) l b)
+
+-- 256 to any power is above 0
+pub power-above : (n : ℕ) → 0 < 256 ^ n
+power-above n = omega (arith, pow-le-pow-right {n = 256} (omega arith) {i = 0} {j = n} (omega arith))

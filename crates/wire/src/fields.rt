@@ -1,6 +1,8 @@
-// Little-endian numbers in the readable part.
+// Little-endian numbers in bytes.
 ghost use mathlib.Core.Path.{_≡_};
+ghost use mathlib.Core.Bool.{cond, _&&_};
 ghost use Prim.Native.Nat.{_+_, _^_, _<_, _≤_};
+ghost use lib.Dec.{leb};
 ghost use lib.ListN.{length};
 ghost use Rattle.laws.specs.Bytes.{field};
 
@@ -31,4 +33,20 @@ pub(crate) fn u32_at(bytes: &[u8], k: usize) -> u32
     ensures { λ r. ⌜ r ≡ field k 4 (now (bytes .entry)) ⌝ }
 {
     number_at(bytes, k, 4) as u32
+}
+
+// The number in the n bytes that start at byte k; 0 where they are not all there, or are more than eight.
+pub fn field_at(bytes: &[u8], k: usize, n: usize) -> u64
+    ensures { λ r. ⌜ (r ≡ cond (leb n 8 && leb (k + n) (length (now (bytes .entry)))) (field k n (now (bytes .entry))) 0) × (r < 256 ^ n) ⌝ }
+{
+    if 8 < n {
+        return 0;
+    }
+    if bytes.len() < n {
+        return 0;
+    }
+    if bytes.len() - n < k {
+        return 0;
+    }
+    number_at(bytes, k, n)
 }

@@ -1,7 +1,7 @@
 // The bytes of requests and of fault records.
 mod copying;
 pub mod fault;
-mod fields;
+pub mod fields;
 pub mod lengths;
 pub mod request;
 pub mod status;

@@ -1,0 +1,9 @@
+pub mod Fields
+pub mod Reading
+pub mod Repeating
+pub mod Longer
+pub mod Streaming
+pub mod Telling
+pub mod Counting
+pub mod Moving
+pub mod Playing

@@ -1,0 +1,26 @@
+-- Lines put into a lent buffer.
+use Prim.Native.Nat.{ℕ, _+_}
+use mathlib.Core.Bool.{cond}
+use mathlib.Core.List.{List, _++_}
+use lib.Dec.{leb}
+use lib.ListN.{length, take, drop}
+
+-- a buffer with a line at place k, its other bytes as they were
+unfoldable pub placed : ℕ → List ℕ → List ℕ → List ℕ
+placed k line out = take k out ++ (line ++ drop (k + length line) out)
+
+-- the bytes that a line may take: any but a fetch's
+abbrev pub lineRoom : ℕ
+lineRoom = 64
+
+-- a fetch's lines: the first, and one of 49 bytes for each of 16 records
+abbrev pub fetchRoom : ℕ
+fetchRoom = 848
+
+-- a line put at place k where there is room for so many bytes; else nothing is
+unfoldable pub written : ℕ → ℕ → List ℕ → List ℕ → List ℕ
+written room k line out = cond (leb (k + room) (length out)) (placed k line out) out
+
+-- and how many bytes that is
+unfoldable pub writtenCount : ℕ → ℕ → List ℕ → List ℕ → ℕ
+writtenCount room k line out = cond (leb (k + room) (length out)) (length line) 0

@@ -1,0 +1,7 @@
+// The lines that a journal prints, put into a lent buffer.
+mod decimal;
+mod hex;
+mod placing;
+pub mod put;
+mod records;
+mod text;
