@@ -1,8 +1,8 @@
 -- The device that the pieces make up which the test of soundness is handed, and the pieces that one part of the test looks at.
 use Prim.Native.Nat.{ℕ}
-use mathlib.Core.Bool.{Bool}
+use mathlib.Core.Bool.{Bool, cond}
 use mathlib.Core.List.{List, [], _∷_}
-use lib.Dec.{leb, eqb}
+use lib.Dec.{leb, ltb, eqb}
 use lib.ListN.{length, getD, take}
 use Rattle.laws.specs.Lists.{every?, tab, pickBy}
 use Rattle.rules.specs.Sizes.{maxRecords, tableWords}
@@ -93,3 +93,7 @@ endpointsAlone es =
       domains = record { start = 0; end = 0 };
       endpoints = es;
     }
+
+-- the owner of the endpoint at place j among the first n; 4, which is no guest's number, past them
+unfoldable pub ownerAmong : ℕ → List ℕ → ℕ → ℕ
+ownerAmong n owners j = cond (ltb j n) (getD owners j 0) 4

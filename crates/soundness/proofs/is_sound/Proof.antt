@@ -52,8 +52,7 @@ faults-good-requires c κs =
     let a = h .before .before .before .args in
     let k = sym (h .before .frame-good .ensures) ∙ not-false _ (h .if1 .left) in
     let n = listed-fits _ _ _ _ _ _ k in
-    let o : length (a .owners .now) ≡ 32 = c .faults-good-arg2 .given .0 in
-    (omega (arith, n, o), listed-within (a .listed) (a .endpoints .now) (in-frame _ _ _ _ _ _ k .1 .1 .0))
+    (n, c .faults-good-arg2 .given .0, c .before .faults-good-arg .given .0)
 
 mul-zero-from : tie.Need-mul-zero-from
 mul-zero-from c =
