@@ -62,7 +62,7 @@ pub(crate) fn decide<'a>(
 }
 
 // The reason that a blocked access is logged with, 0 where none is.
-fn reason_of(a: Answer) -> u8
+pub(crate) fn reason_of(a: Answer) -> u8
     ensures { λ r. ⌜ r ≡ reasonOf a ⌝ }
 {
     match a {

@@ -101,6 +101,25 @@ module _ (s : State) (ws : List ℕ) (e : Endpoint) (x kind : ℕ) (t : Bool) (i
   pub access-works : not t ≡ false → Shaped s → (a : Answer) (r : State) → a ≡ decision (device s ws) e x kind → r ≡ accessed s e x kind a → (record { answer = a; buffer = [] }, device r ws) ≡ step (device s ws) (access-by e x kind)
   access-works f k a r y z = rw (z, y) (sym (access-step (device s ws) (sym i ∙ not-false t f) k e x kind))
 
+-- an access on any state: the answer, no buffer, and the state with what a blocked access logs
+module _ (s : State) (ws : List ℕ) (k : Shaped s) (e : Endpoint) (x kind : ℕ) where
+  whole-from : (p : Reply × Device) (a : Answer) → p ≡ (record { answer = a; buffer = [] }, device (accessed s e x kind a) ws)
+      → p ≡ (record { answer = p .0 .answer; buffer = [] }, device (accessed s e x kind (p .0 .answer)) ws)
+  whole-from p a q = rw q
+
+  pub access-whole : step (device s ws) (access-by e x kind) ≡ (record { answer = step (device s ws) (access-by e x kind) .0 .answer; buffer = [] }, device (accessed s e x kind (step (device s ws) (access-by e x kind) .0 .answer)) ws)
+  unfolding accessed
+  access-whole = go (sound (device s ws)) refl
+    where
+      go : (b : Bool) → sound (device s ws) ≡ b
+          → step (device s ws) (access-by e x kind) ≡ (record { answer = step (device s ws) (access-by e x kind) .0 .answer; buffer = [] }, device (accessed s e x kind (step (device s ws) (access-by e x kind) .0 .answer)) ws)
+      go true h = whole-from (step (device s ws) (access-by e x kind)) (decision (device s ws) e x kind) (access-step (device s ws) h k e x kind)
+      go false h = whole-from (step (device s ws) (access-by e x kind)) Unsound (unsound (device s ws) (access-by e x kind) refl h)
+
+  -- the same of an answer that is known: the entry's returns
+  pub access-given : (a : Answer) (r : State) → a ≡ step (device s ws) (access-by e x kind) .0 .answer → r ≡ accessed s e x kind a → (record { answer = a; buffer = [] }, device r ws) ≡ step (device s ws) (access-by e x kind)
+  access-given a r y z = rw (z, y) (sym access-whole)
+
 -- WHAT SOUND STATE AND TABLE BOUND
 
 module _ (s : State) (ws : List ℕ) (h : sound (device s ws) ≡ true) (k : Shaped s) where
