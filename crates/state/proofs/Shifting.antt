@@ -7,7 +7,7 @@ use native.Mathlib.Nat.{min-eq-left, min-eq-right}
 use native.Mathlib.Omega.{arith}
 use lib.Dec.{ltb, eqb}
 use lib.ListN.{length, getD, set, List·getD-eq-default}
-use borrow.Author.Tests.{ltb-true, ltb-false, le-ltb, ne-eqb}
+use borrow.Author.Tests.{ltb-true, ltb-false, lt-ltb, le-ltb, ne-eqb}
 use Rattle.laws.proofs.Tables.{tab-is, tab-same}
 use Rattle.state.specs.Changes.{shifted, shiftedAll, zeroOf}
 use Rattle.state.specs.Places.{cameFrom}
@@ -39,6 +39,15 @@ module _ (g k : ℕ) (l : List ℕ) (e : length l ≡ 64) where
   pub shifted-none : 4 ≤ g → shiftedAll g k l ≡ l
   unfolding shifted
   shifted-none h = tab-is 64 (shifted g k l) l 0 e (λ i j. rw (ne-eqb (i / 16) g (λ q. omega arith)))
+
+  -- where none go, all stay
+  pub shifted-zero : k ≡ 0 → shiftedAll g k l ≡ l
+  unfolding shifted
+  shifted-zero z = tab-is 64 (shifted g k l) l 0 e (λ i j. go i (eqb (i / 16) g))
+    where
+      go : (i : ℕ) (b : Bool) → cond b (cond (ltb (i % 16 + k) 16) (getD l (i + k) 0) 0) (getD l i 0) ≡ getD l i 0
+      go i true = let q : i + k ≡ i = omega arith in rw (lt-ltb (i % 16 + k) 16 (omega arith), q)
+      go i false = refl
 
 -- all of a guest's sixteen places are gone at sixteen
 pub shifted-cap : (g k : ℕ) (l : List ℕ) → shiftedAll g (min k 16) l ≡ shiftedAll g k l

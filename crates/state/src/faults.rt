@@ -129,6 +129,10 @@ pub fn drop_faults(s: State, g: Guest, k: usize) -> State
     if guest >= 4 {
         return s;
     }
+    if k == 0 {
+        // Nothing goes.
+        return s;
+    }
     let n = s.logged[guest];
     let mut next = shift_faults(s, guest, least(k, 16));
     next.logged[guest] = n - least(n, k);
