@@ -1,0 +1,21 @@
+-- `shown::sums::sum_faults` meets its contract, by those of its callees. Assumes nothing.
+use borrow.Author.Needs.{needs}
+use Rattle.shown.proofs.sums.sum_faults.Statement.{statement}
+use Rattle.shown.proofs.sums.sum_faults.Tie as tie
+
+returns : tie.Need-returns
+returns c = cc
+
+pub sum-faults-spec : {M : Type 1} → statement M
+sum-faults-spec =
+    tie.close
+    (tie.spec
+    (λ c. search needs)
+    (λ c κs. search needs)
+    (λ c. search needs)
+    (λ c κs. search needs)
+    (λ c. search needs)
+    (λ c κs. search needs)
+    (λ c. search needs)
+    (λ c κs. search needs)
+    returns)

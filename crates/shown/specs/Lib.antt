@@ -1,0 +1,2 @@
+-- What the programs that show the library have in common.
+pub mod Shown
