@@ -1,8 +1,9 @@
 #!/usr/bin/env bash
-# The second program's own tests, worked out by hand from document 01, and its seeded journals.
+# The second program's own tests, worked out by hand from document 01; then the journal program against it, line by line, on
+# seeded journals, and in pairs of journals the lines of the one guest whose calls are the same in both.
 set -eu
-cd "$(dirname "${BASH_SOURCE[0]}")/../crosscheck"
+cd "$(dirname "${BASH_SOURCE[0]}")/.."
 export CARGO_NET_OFFLINE=true
-cargo test --release --locked --quiet
-cargo build --release --locked --quiet
-target/release/crosscheck - 1 3000
+[ -x target/bin/replay ] || rt check replay
+(cd crosscheck && cargo test --release --locked --quiet && cargo build --release --locked --quiet)
+crosscheck/target/release/crosscheck target/bin/replay 1 3000
