@@ -39,7 +39,7 @@ pub fn access_answer<'a>(
 ) -> Answer
     ensures { λ r. ⌜ (r ≡ step (deviceOf settings listed live (now (endpoints .entry)) (now (owners .entry)) (now (attached .entry)) (now (domains .entry)) (now (logged .entry)) (now (lost .entry)) (now (reasons .entry)) (now (flags .entry)) (now (sources .entry)) (now (addresses .entry)) (now (t .entry))) (access-by e address kind) .0 .answer) × Shaped (stateWith settings listed live (now (endpoints .entry)) (now (owners .entry)) (now (attached .entry)) (now (domains .entry)) (now (logged .entry)) (now (lost .entry)) (now (reasons .entry)) (now (flags .entry)) (now (sources .entry)) (now (addresses .entry))) ⌝ }
 {
-    if !checks::is_sound(
+    if !checks::lent_sound(
         settings,
         listed,
         live,
@@ -124,22 +124,7 @@ pub fn fetch(s: State, t: &[u64], g: Guest, buffer: &mut [u8]) -> Given
             state: s,
         };
     }
-    if !checks::is_sound(
-        settings,
-        s.listed,
-        s.live,
-        &s.endpoints,
-        &s.owners,
-        &s.attached,
-        &s.domains,
-        &s.logged,
-        &s.lost,
-        &s.reasons,
-        &s.flags,
-        &s.sources,
-        &s.addresses,
-        t,
-    ) {
+    if !checks::is_sound(s, t) {
         return Given {
             answer: Answer::Unsound,
             state: s,

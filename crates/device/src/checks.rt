@@ -4,8 +4,33 @@ ghost use Prim.Native.Nat.{ℕ, _≤_};
 ghost use Rattle.rules.specs.Configuration.{last};
 ghost use Rattle.rules.specs.Sound.{sound};
 ghost use Rattle.soundness.specs.Pieces.{stateWith, deviceOf};
+ghost use Rattle.effects.specs.Flat.{device};
 ghost use Rattle.effects.specs.Checked.{Shaped};
 use rules::Settings;
+use rules::State;
+
+// Whether state and table are sound; and, for whoever calls, what the types of the state's arrays fix.
+pub(crate) fn is_sound(s: State, t: &[u64]) -> bool
+    ensures { λ r. ⌜ (r ≡ sound (device s (now (t .entry)))) × Shaped s × ((i : ℕ) → last (s .settings) i ≤ 18446744073709551615) ⌝ }
+{
+    let settings = s.settings;
+    soundness::is_sound(
+        settings,
+        s.listed,
+        s.live,
+        &s.endpoints,
+        &s.owners,
+        &s.attached,
+        &s.domains,
+        &s.logged,
+        &s.lost,
+        &s.reasons,
+        &s.flags,
+        &s.sources,
+        &s.addresses,
+        t,
+    )
+}
 
 // Nothing. An array that is lent here as a slice has its length told to the proof of the lender.
 fn measure<'a>(
@@ -22,8 +47,8 @@ fn measure<'a>(
 ) {}
 
 // Whether the state of these pieces and the table are sound; and, for whoever calls, what the types of the arrays fix.
-// The arrays are lent, so that no call copies its state for this test.
-pub(crate) fn is_sound<'a>(
+// The same with the arrays lent, for a caller that keeps its state.
+pub(crate) fn lent_sound<'a>(
     settings: Settings,
     listed: usize,
     live: usize,

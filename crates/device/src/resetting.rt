@@ -21,22 +21,7 @@ pub fn reset(s: State, t: &mut [u64], g: Guest) -> Given
             state: s,
         };
     }
-    if !checks::is_sound(
-        settings,
-        s.listed,
-        s.live,
-        &s.endpoints,
-        &s.owners,
-        &s.attached,
-        &s.domains,
-        &s.logged,
-        &s.lost,
-        &s.reasons,
-        &s.flags,
-        &s.sources,
-        &s.addresses,
-        t,
-    ) {
+    if !checks::is_sound(s, t) {
         return Given {
             answer: Answer::Unsound,
             state: s,

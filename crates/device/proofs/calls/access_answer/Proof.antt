@@ -20,14 +20,14 @@ lent s =
 
 returns : tie.Need-returns
 returns c =
-    let x = c .before .is-sound in
+    let x = c .before .lent-sound in
     let s = c .before .before .before in
     let a = s .args in
     (ap (λ (p : Reply × Device). p .0 .answer) (access-unsound (lent s) (a .t .now) (a .e) (a .address) (a .kind) (x .result) (x .ensures .0) (c .if1 .taken)), x .ensures .1)
 
 decide-requires : tie.Need-decide-requires
 decide-requires c κs =
-    let x = c .before .is-sound in
+    let x = c .before .lent-sound in
     let s = c .before .before .before in
     let a = s .args in
     let here = sym (x .ensures .0) ∙ not-false (x .result) (c .if1 .left) in
@@ -37,7 +37,7 @@ returns-2 : tie.Need-returns-2
 returns-2 c =
     let d = c .decide in
     let f = c .before in
-    let x = f .before .is-sound in
+    let x = f .before .lent-sound in
     let s = f .before .before .before in
     let a = s .args in (
       ap (λ (p : Reply × Device). p .0 .answer)

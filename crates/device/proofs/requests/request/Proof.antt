@@ -7,22 +7,22 @@ use Rattle.device.proofs.requests.request.Tie as tie
 returns : tie.Need-returns
 returns c =
     let a = c .before .before .before .before .before .before .before .args in
-    request-no-guest (a .t1) (a .t .now) (a .g) (a .readable .now) (a .writable .now) (c .if1 .taken)
+    request-no-guest (a .s) (a .t .now) (a .g) (a .readable .now) (a .writable .now) (c .if1 .taken)
 
 returns-2 : tie.Need-returns-2
 returns-2 c =
     let x = c .before .is-sound in
-    let e = c .before .before .before .before .before .before .before .before .before .before .before .before .before .before in
+    let e = c .before .before .before in
     let a = e .before .before .before .before .before .before .before .args in
-    request-unsound (a .t1) (a .t .now) (a .g) (e .if1 .left) (x .result) (x .ensures .0) (c .if2 .taken) (a .readable .now) (a .writable .now)
+    request-unsound (a .s) (a .t .now) (a .g) (e .if1 .left) (x .result) (x .ensures .0) (c .if2 .taken) (a .readable .now) (a .writable .now)
 
 serve-requires : tie.Need-serve-requires
 serve-requires c κs =
     let f = c .before .before in
     let x = f .before .is-sound in
-    let e = f .before .before .before .before .before .before .before .before .before .before .before .before .before .before in
+    let e = f .before .before .before in
     let a = e .before .before .before .before .before .before .before .args in
-    serve-ready (a .t1) (a .t .now) (a .g) (e .if1 .left) (x .result) (x .ensures .0) (f .if2 .left) (x .ensures .1)
+    serve-ready (a .s) (a .t .now) (a .g) (e .if1 .left) (x .result) (x .ensures .0) (f .if2 .left) (x .ensures .1)
 
 returns-3 : tie.Need-returns-3
 returns-3 c = c .before .before .before .before .serve .ensures
