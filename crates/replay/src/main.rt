@@ -5,12 +5,13 @@ use journal::blocks;
 use journal::play;
 use journal::player;
 use journal::player::Player;
-use journal::player::Turned;
 
-// How far a journal has come: the bytes of the block that are held, and where in the journal the first of them stands.
+// How far a journal has come: the bytes of the block that are held, how many of them are worked, and where in the journal the
+// first that is not stands.
 struct Progress {
     player: Player,
     held: usize,
+    read: usize,
     offset: u64,
     done: bool,
 }
@@ -22,11 +23,23 @@ fn within(n: usize, buffer: &[u8]) -> usize
     if n < buffer.len() { n } else { buffer.len() }
 }
 
+// Prints a buffer's first n bytes, and says whether they were written.
+fn print(out: &[u8], n: usize) -> bool {
+    let k = within(n, out);
+    io::write_all(1, &out[..k])
+}
+
 // Prints the last line, where `left` bytes are left that are no whole record.
 fn print_end(out: &mut [u8], left: usize, offset: u64) {
     let n = play::end(out, left, offset);
-    let k = within(n, out);
-    io::write_all(1, &out[..k]);
+    print(out, n);
+}
+
+// Prints where a journal is bad, if it is.
+fn print_bad(out: &mut [u8], bad: bool, offset: u64) {
+    if bad {
+        print_end(out, 1, offset);
+    }
 }
 
 // Reads behind the bytes held. Where there are no more, the last line is printed; where reading fails, there is none.
@@ -42,46 +55,36 @@ fn read_more(block: &mut [u8], held: usize, offset: u64, out: &mut [u8]) -> usiz
     n
 }
 
-// Works the whole records among the bytes held, and prints their lines.
-fn work(p: Player, table: &mut [u64], block: &[u8], held: usize, out: &mut [u8]) -> Turned {
-    let h = within(held, block);
-    let x = play::play(p, table, &block[..h], out);
-    let k = within(x.printed, out);
-    io::write_all(1, &out[..k]);
-    x
+// Works the whole records among the bytes held, and prints their lines. Where they could not be written, none may follow.
+fn work(p: Progress, table: &mut [u64], block: &[u8], out: &mut [u8]) -> Progress {
+    let h = within(p.held, block);
+    let before = p.player;
+    let x = play::play(before, table, &block[..h], out);
+    let player = x.player;
+    let offset = std::num::wrapping_add_u64(p.offset, x.read as u64);
+    let written = print(out, x.printed);
+    print_bad(out, written & x.bad, offset);
+    Progress {
+        player,
+        held: p.held,
+        read: x.read,
+        offset,
+        done: !written | x.bad,
+    }
 }
 
 // Works what is held, and reads on where that is no whole record.
 fn go_on(p: Progress, table: &mut [u64], block: &mut [u8], out: &mut [u8]) -> Progress {
-    let before = p.player;
-    let x = work(before, table, block, p.held, out);
-    let player = x.player;
-    let offset = std::num::wrapping_add_u64(p.offset, x.read as u64);
-    let held = blocks::keep_rest(block, x.read, p.held);
-    if x.bad {
-        print_end(out, 1, offset);
-        return Progress {
-            player,
-            held,
-            offset,
-            done: true,
-        };
+    let mut next = work(p, table, block, out);
+    let held = blocks::keep_rest(block, next.read, next.held);
+    next.held = held;
+    if next.done | (next.read > 0) {
+        return next;
     }
-    if x.read > 0 {
-        return Progress {
-            player,
-            held,
-            offset,
-            done: false,
-        };
-    }
-    let n = read_more(block, held, offset, out);
-    Progress {
-        player,
-        held: std::num::wrapping_add_usize(held, n),
-        offset,
-        done: n == 0,
-    }
+    let n = read_more(block, held, next.offset, out);
+    next.held = std::num::wrapping_add_usize(held, n);
+    next.done = n == 0;
+    next
 }
 
 // Works the journal to its end. A proved loop has to end, so it counts down from a number that no journal uses up.
@@ -89,6 +92,7 @@ fn replay_all(table: &mut [u64], block: &mut [u8], out: &mut [u8]) {
     let mut p = Progress {
         player: player::fresh(),
         held: 0,
+        read: 0,
         offset: 0,
         done: false,
     };
