@@ -62,6 +62,22 @@ build worked_run -- worked_run.c requests.c
 "$out/worked_run" | diff tests/c/worked_run.expected -
 echo "worked run: the lines of document 01"
 
+# show PROGRAM FILE..: what no journal shows, held to lines worked out from document 01
+show() {
+  local program=$1
+  build "$program" -- "$program.c" shown.c "${@:2}"
+  "$out/$program" | diff "tests/c/$program.expected" -
+  echo "$program: the lines expected"
+}
+
+show show_configuration show_configuration_line.c
+show show_soundness show_soundness_line.c show_soundness_settings.c show_soundness_places.c show_soundness_records.c \
+  show_soundness_faults.c driver.c requests.c
+show show_lengths show_lengths_tables.c show_lengths_parts.c driver.c requests.c
+show show_lost garbage_effect.c garbage_wanted.c
+show show_buffers requests.c garbage_effect.c garbage_wanted.c
+show show_table requests.c
+
 garbage=(garbage.c garbage_set_up.c garbage_good.c garbage_draw.c garbage_wanted.c garbage_effect.c garbage_call.c
   garbage_queries.c garbage_break.c garbage_break_configuration.c garbage_break_records.c garbage_break_places.c garbage_damage.c
   lent.c requests.c)
