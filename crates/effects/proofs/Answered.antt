@@ -35,8 +35,9 @@ use Rattle.rules.specs.Device.{Call, access-by, fetch-for, Reply, refused, rule
 use Rattle.rules.specs.Device as rules
 use Rattle.rules.proofs.Worlds.{Good, good-facts, Whole, caller-below}
 use Rattle.rules.proofs.Reading.{sound-good, sound-whole, sound-listed, log-read}
-use Rattle.state.specs.Changes.{faultLogged, faultsDropped}
-use Rattle.state.specs.Search.{indexOf}
+use Rattle.logging.specs.Changes.{faultLogged}
+use Rattle.dropping.specs.Changes.{faultsDropped}
+use Rattle.attachments.specs.Search.{indexOf}
 use Rattle.effects.specs.Flat.{device, placeOf, isAttached, liveRecords, answerOf, decided, decision, reasonOf, accessed, fetchCount, fetchBytes}
 use Rattle.effects.specs.Checked.{Shaped}
 use Rattle.effects.proofs.Places.{owner-at}

@@ -8,10 +8,10 @@ use Rattle.rules.specs.declared.Endpoint.{Endpoint}
 use Rattle.rules.specs.declared.Answer.{Answer}
 use Rattle.rules.specs.State.{Device}
 use Rattle.rules.specs.Table.{keyOf, mapping}
-use Rattle.wire.specs.declared.request.Request.{Request}
-use Rattle.wire.specs.declared.request.Request.the-variants.{Refused, Attach, Detach, Map, Unmap}
-use Rattle.wire.specs.declared.request.MapFields.{MapFields}
-use Rattle.wire.specs.declared.request.UnmapFields.{UnmapFields}
+use Rattle.layouts.specs.declared.request.Request.{Request}
+use Rattle.layouts.specs.declared.request.Request.the-variants.{Refused, Attach, Detach, Map, Unmap}
+use Rattle.layouts.specs.declared.request.MapFields.{MapFields}
+use Rattle.layouts.specs.declared.request.UnmapFields.{UnmapFields}
 use Rattle.effects.specs.Flat.{Worked, worked, attachFlat, detachFlat, mapFlat, unmapFlat}
 use Rattle.effects.specs.Serve.{recordOf, handled}
 

@@ -36,16 +36,16 @@ use Rattle.rules.proofs.Worlds.{Good, Whole}
 use Rattle.rules.proofs.Access.{Covers, permits-covers}
 use Rattle.rules.proofs.Reading.{tests, sound-good, sound-whole}
 use Rattle.rules.proofs.Soundness.{all-guests}
-use Rattle.wire.specs.declared.request.Request.{Request}
-use Rattle.wire.specs.declared.request.Request.the-variants.{Refused, Attach, Detach, Map, Unmap}
-use Rattle.wire.specs.Parsed.{mapFields, unmapFields, asked, unless, parsed}
-use Rattle.wire.proofs.request.Request as request-type
+use Rattle.layouts.specs.declared.request.Request.{Request}
+use Rattle.layouts.specs.declared.request.Request.the-variants.{Refused, Attach, Detach, Map, Unmap}
+use Rattle.layouts.specs.Parsed.{mapFields, unmapFields, asked, unless, parsed}
+use Rattle.layouts.proofs.request.Request as request-type
 use Rattle.effects.specs.Checked.{Shaped}
 use Rattle.effects.specs.Flat.{device, Worked, worked, resetFlat, decision, accessed, fetchCount, fetchBytes}
 use Rattle.effects.specs.Serve.{handled}
 use Rattle.effects.proofs.Shape.{small-count}
 use Rattle.effects.proofs.Stepped.{no-such-guest, unsound, reset-step, refused-step, served-step}
-use Rattle.state.specs.Changes.{faultsDropped}
+use Rattle.dropping.specs.Changes.{faultsDropped}
 use Rattle.effects.proofs.Answered.{access-step, fetch-step}
 
 module _ (s : State) (ws : List ℕ) (g : Guest) where

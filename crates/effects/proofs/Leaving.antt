@@ -34,9 +34,9 @@ use Rattle.rules.proofs.Worlds.{Good, good-facts, Whole, same-guest}
 use Rattle.rules.proofs.Shares.{fits}
 use Rattle.rules.proofs.Soundness.{all-guests}
 use Rattle.rules.proofs.Writing.{kept, config-back}
-use Rattle.table.specs.Records.{within}
-use Rattle.state.specs.Changes.{attachedAt}
-use Rattle.state.specs.Search.{indexOf}
+use Rattle.rewriting.specs.Rewritten.{within}
+use Rattle.attachments.specs.Changes.{attachedAt}
+use Rattle.attachments.specs.Search.{indexOf}
 use Rattle.effects.specs.Flat.{device, topAddress, placeOf, ownedAt, isAttached, domainAt, existsFlat, removed, left, entered, moved}
 use Rattle.effects.proofs.Flat.{with-same, with-kept}
 use Rattle.effects.proofs.Places.{owner-at, attachment-at, attached-at, listed-owned}

@@ -25,7 +25,9 @@ use Rattle.rules.specs.Sound.{guest}
 use Rattle.rules.proofs.Parts.{logTests, logOk}
 use Rattle.rules.proofs.Worlds.{Good, good-facts, Whole}
 use Rattle.state.specs.Fields.{withAttachments, withCounts, withFaults}
-use Rattle.state.specs.Changes.{faultStored, faultLogged, shifted, shiftedAll, faultsDropped, zeroOf, zeroedOf, guestCleared}
+use Rattle.logging.specs.Changes.{faultStored, faultLogged}
+use Rattle.dropping.specs.Changes.{shifted, shiftedAll, faultsDropped}
+use Rattle.resets.specs.Changes.{zeroOf, zeroedOf, guestCleared}
 use Rattle.effects.proofs.Places.{all-detached}
 use Rattle.effects.proofs.Written.{withAtts, withLogs, set-tab}
 

@@ -2,7 +2,7 @@
 -- and words.
 use Prim.Native.Nat.{ℕ, zero, suc, _+_, _-_, _*_, _/_, _%_, _^_, _<_, _≤_}
 use mathlib.Core.Path.{_≡_, refl, sym, ap, _∙_}
-use mathlib.Core.Bool.{Bool, true, not, _||_}
+use mathlib.Core.Bool.{Bool, true, false, not, _&&_, _||_}
 use mathlib.Core.List.{List, [], _∷_}
 use mathlib.Core.Logic.{⊎-elim}
 use native.Mathlib.Numerals.{add-one}
@@ -24,9 +24,9 @@ use Rattle.rules.specs.Configuration.{share, first, last}
 use Rattle.rules.specs.Table.{keyOf, records, overlap}
 use Rattle.rules.specs.Guests.{recordsOf}
 use Rattle.rules.specs.Handlers.{outside, granularity, straddles}
-use Rattle.table.specs.Records.{insertedWords}
+use Rattle.rewriting.specs.Rewritten.{insertedWords}
 use Rattle.state.specs.Fields.{withLive}
-use Rattle.effects.specs.Flat.{worked, device, existsFlat, removed, inserted, firstOf, formStatus, mapStatus, mapFlat, unmapStatus, unmapFlat}
+use Rattle.effects.specs.Flat.{worked, device, existsFlat, removed, inserted, firstOf, formStatus, mapStatus, mapFlat, mapPlaced, unmapStatus, unmapFlat, topAddress}
 
 -- WINDOWS
 
@@ -83,6 +83,14 @@ module _ (s : State) (ws : List ℕ) (g : Guest) (d : Domain) where
   unmap-steps a c z x k b o eb ek eo e = e ∙ rw (eb, eo, ek)
 
   -- HANDLERS
+
+  pub map-unplaced : (r : Mapping) → (ltb 0 (s .settings .mask) && (ltb (g .0) 4 && ltb (s .live) topAddress)) ≡ false → worked 0 (device s ws) ≡ mapPlaced (device s ws) g d r
+  unfolding mapPlaced
+  map-unplaced r h = rw h
+
+  pub map-placed : (r : Mapping) → (ltb 0 (s .settings .mask) && (ltb (g .0) 4 && ltb (s .live) topAddress)) ≡ true → mapPlaced (device s ws) g d r ≡ mapFlat (device s ws) g d r
+  unfolding mapPlaced
+  map-placed r h = rw h
 
   pub map-refused : (r : Mapping) (x : ℕ) → x ≡ mapStatus (device s ws) g d r → (x ≡ 0 → ⊥) → worked x (device s ws) ≡ mapFlat (device s ws) g d r
   unfolding mapFlat

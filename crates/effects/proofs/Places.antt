@@ -18,7 +18,7 @@ use Rattle.rules.specs.State.{Attachment}
 use Rattle.rules.specs.Handlers.{isIn, exists, listed, attachmentOf, attachedAs}
 use Rattle.rules.specs.Sound.{guest}
 use Rattle.rules.specs.Device.{ownerOf, is}
-use Rattle.state.specs.Search.{indexOf}
+use Rattle.attachments.specs.Search.{indexOf}
 
 -- the owner of an endpoint, by its place
 pub owner-at : (e : Endpoint) (es os : List ℕ) → length os ≡ length es → ownerOf e es os ≡ cond (ltb (indexOf (e .0) es) (length es)) (some (guest (getD os (indexOf (e .0) es) 0))) none

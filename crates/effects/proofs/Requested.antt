@@ -37,9 +37,11 @@ use Rattle.rules.proofs.Shares.{fits}
 use Rattle.rules.proofs.Writing.{kept, config-back, read-write}
 use Rattle.rules.proofs.Soundness.{write-sound}
 use Rattle.rules.proofs.Share.{room-within-share}
-use Rattle.table.specs.Records.{within}
-use Rattle.state.specs.Changes.{faultLogged, faultsDropped, guestCleared}
-use Rattle.state.specs.Search.{indexOf}
+use Rattle.rewriting.specs.Rewritten.{within}
+use Rattle.logging.specs.Changes.{faultLogged}
+use Rattle.dropping.specs.Changes.{faultsDropped}
+use Rattle.resets.specs.Changes.{guestCleared}
+use Rattle.attachments.specs.Search.{indexOf}
 use Rattle.effects.specs.Flat.{device, Worked, worked, topAddress, placeOf, ownedAt, isAttached, domainAt, existsFlat, liveRecords, removed, inserted, left, entered, moved, firstOf, settled, attachStatus, attachFlat, detachStatus, detachFlat, formStatus, mapStatus, mapFlat, unmapStatus, unmapFlat, resetFlat}
 use Rattle.effects.proofs.Flat.{with-kept, with-inserted, any-of}
 use Rattle.effects.proofs.Places.{owner-at, listed-owned}

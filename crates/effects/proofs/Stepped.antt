@@ -26,8 +26,8 @@ use Rattle.rules.specs.Device as rules
 use Rattle.rules.proofs.Worlds.{Good, good-facts, Whole}
 use Rattle.rules.proofs.Writing.{kept}
 use Rattle.rules.proofs.Reading.{sound-whole}
-use Rattle.wire.specs.Parsed.{asked, parsed, unless, mapFields, unmapFields}
-use Rattle.wire.specs.declared.request.Request.the-variants.{Attach, Detach, Map, Unmap}
+use Rattle.layouts.specs.Parsed.{asked, parsed, unless, mapFields, unmapFields}
+use Rattle.layouts.specs.declared.request.Request.the-variants.{Attach, Detach, Map, Unmap}
 use Rattle.effects.specs.Flat.{device, Worked, worked, attachFlat, detachFlat, mapFlat, unmapFlat, resetFlat}
 use Rattle.effects.specs.Serve.{recordOf, handled}
 use Rattle.effects.specs.Checked.{Shaped}

@@ -26,11 +26,14 @@ use Rattle.rules.specs.Access.{logged, fetchedFrom}
 use Rattle.rules.proofs.Worlds.{Good}
 use Rattle.rules.proofs.Records.{length-insert}
 use Rattle.rules.proofs.Words.{records-tableOf}
-use Rattle.table.specs.Records.{within, keptOf, insertedWords, removedWords}
-use Rattle.table.proofs.Tables.{inserted-table, removed-table}
+use Rattle.rewriting.specs.Rewritten.{within, keptOf, insertedWords, removedWords}
+use Rattle.rewriting.proofs.Tables.{inserted-table, removed-table}
 use Rattle.state.specs.Fields.{withLive, withAttachments, withCounts, withFaults}
-use Rattle.state.specs.Changes.{attachedAt, faultStored, faultLogged, shifted, shiftedAll, faultsDropped, zeroOf, zeroedOf, guestCleared}
-use Rattle.state.specs.Search.{anyBelow, belongs}
+use Rattle.attachments.specs.Changes.{attachedAt}
+use Rattle.logging.specs.Changes.{faultStored, faultLogged}
+use Rattle.dropping.specs.Changes.{shifted, shiftedAll, faultsDropped}
+use Rattle.resets.specs.Changes.{zeroOf, zeroedOf, guestCleared}
+use Rattle.attachments.specs.Search.{anyBelow, belongs}
 use Rattle.effects.specs.Flat.{device, existsFlat, removed, inserted}
 
 -- a world with one thing changed

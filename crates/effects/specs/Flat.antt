@@ -7,7 +7,7 @@ use mathlib.Core.Option.{Option, some, none}
 use lib.Dec.{leb, ltb, eqb}
 use lib.ListN.{length, getD, take, drop}
 use Rattle.laws.specs.Lists.{any?, firstFailing, tab}
-use Rattle.rules.specs.Sizes.{maxFaults, faultSize, domainSpan}
+use Rattle.rules.specs.Sizes.{maxGuests, maxFaults, faultSize, domainSpan}
 use Rattle.rules.specs.declared.Guest.{Guest}
 use Rattle.rules.specs.declared.Endpoint.{Endpoint}
 use Rattle.rules.specs.declared.Domain.{Domain}
@@ -24,10 +24,13 @@ use Rattle.rules.specs.Guests.{recordsOf}
 use Rattle.rules.specs.Requests.{OK, INVAL, RANGE, NOENT, FAULT, NOMEM}
 use Rattle.rules.specs.Handlers.{outside, granularity, straddles}
 use Rattle.rules.specs.Access.{lookup, faultOf, faultBytes, bytesOf}
-use Rattle.table.specs.Records.{insertedWords, keptOf, removedWords}
+use Rattle.rewriting.specs.Rewritten.{insertedWords, keptOf, removedWords}
 use Rattle.state.specs.Fields.{withLive}
-use Rattle.state.specs.Changes.{attachedAt, faultLogged, faultsDropped, guestCleared}
-use Rattle.state.specs.Search.{indexOf, anyBelow, belongs}
+use Rattle.attachments.specs.Changes.{attachedAt}
+use Rattle.logging.specs.Changes.{faultLogged}
+use Rattle.dropping.specs.Changes.{faultsDropped}
+use Rattle.resets.specs.Changes.{guestCleared}
+use Rattle.attachments.specs.Search.{indexOf, anyBelow, belongs}
 
 abbrev pub device : State → List ℕ → Device
 device s ws = record { state = s; table = ws }
@@ -136,6 +139,10 @@ mapStatus d g dom r =
 
 unfoldable pub mapFlat : Device → Guest → Domain → Mapping → Worked
 mapFlat d g dom r = settled (mapStatus d g dom r) d (inserted d r)
+
+-- the same where the mask has a lowest bit, and the guest and one record more have places, as in a sound device; else nothing is done
+unfoldable pub mapPlaced : Device → Guest → Domain → Mapping → Worked
+mapPlaced d g dom r = cond (ltb 0 (d .state .settings .mask) && (ltb (g .0) maxGuests && ltb (d .state .live) topAddress)) (mapFlat d g dom r) (worked OK d)
 
 unfoldable pub unmapStatus : Device → Guest → Domain → ℕ → ℕ → ℕ → ℕ
 unmapStatus d g dom a b reserved =

@@ -6,9 +6,9 @@ use Rattle.rules.specs.declared.Mapping.{Mapping}
 use Rattle.rules.specs.Requests.{OK}
 use Rattle.rules.specs.State.{Device}
 use Rattle.rules.specs.Table.{keyOf, mapping}
-use Rattle.wire.specs.declared.request.Request.{Request}
-use Rattle.wire.specs.declared.request.Request.the-variants.{Refused, Attach, Detach, Map, Unmap}
-use Rattle.wire.specs.declared.request.MapFields.{MapFields}
+use Rattle.layouts.specs.declared.request.Request.{Request}
+use Rattle.layouts.specs.declared.request.Request.the-variants.{Refused, Attach, Detach, Map, Unmap}
+use Rattle.layouts.specs.declared.request.MapFields.{MapFields}
 use Rattle.effects.specs.Flat.{Worked, worked, attachFlat, detachFlat, mapFlat, unmapFlat}
 
 -- the record that a MAP request of guest g asks for

@@ -62,7 +62,7 @@ fn attach_status(s: State, g: Guest, d: Domain, i: usize, reserved: u64) -> u8
 pub fn attach(s: State, t: &mut [u64], g: Guest, d: Domain, e: Endpoint, reserved: u64) -> Handled
     ensures { λ r. ⌜ outcome r (now (t .exit)) ≡ attachFlat (device s (now (t .entry))) g d e reserved ⌝ }
 {
-    let i = state::search::place_of(s.listed, &s.endpoints, e);
+    let i = attachments::place_of(s.listed, &s.endpoints, e);
     let status = attach_status(s, g, d, i, reserved);
     if status != 0 {
         return Handled { status, state: s };
@@ -97,7 +97,7 @@ fn detach_status(s: State, g: Guest, d: Domain, i: usize, reserved: u64) -> u8
 pub fn detach(s: State, t: &mut [u64], g: Guest, d: Domain, e: Endpoint, reserved: u64) -> Handled
     ensures { λ r. ⌜ outcome r (now (t .exit)) ≡ detachFlat (device s (now (t .entry))) g d e reserved ⌝ }
 {
-    let i = state::search::place_of(s.listed, &s.endpoints, e);
+    let i = attachments::place_of(s.listed, &s.endpoints, e);
     let status = detach_status(s, g, d, i, reserved);
     if status != 0 {
         return Handled { status, state: s };
@@ -113,7 +113,7 @@ pub fn detach(s: State, t: &mut [u64], g: Guest, d: Domain, e: Endpoint, reserve
 pub fn reset(s: State, t: &mut [u64], g: Guest) -> State
     ensures { λ r. ⌜ device r (now (t .exit)) ≡ resetFlat (device s (now (t .entry))) g ⌝ }
 {
-    let next = state::faults::clear_guest(s, g);
+    let next = resets::clear_guest(s, g);
     let low = (g.0 as u64) * 4294967296;
     moves::remove(next, t, low, low + 4294967295, 0, moves::TOP_ADDRESS)
 }

@@ -21,7 +21,7 @@ pub fn remove(s: State, t: &mut [u64], low: u64, high: u64, a: u64, b: u64) -> S
     ensures { λ r. ⌜ device r (now (t .exit)) ≡ removed (device s (now (t .entry))) low high a b ⌝ }
 {
     let live = s.live;
-    let kept = table::remove(t, live, low, high, a, b);
+    let kept = rewriting::remove(t, live, low, high, a, b);
     let mut next = s;
     next.live = kept;
     next
@@ -31,8 +31,8 @@ pub fn remove(s: State, t: &mut [u64], low: u64, high: u64, a: u64, b: u64) -> S
 pub(crate) fn leave(s: State, t: &mut [u64], g: Guest, i: usize, d: Domain) -> State
     ensures { λ r. ⌜ device r (now (t .exit)) ≡ left (device s (now (t .entry))) g i d ⌝ }
 {
-    let next = state::attachments::attach_at(s, i, 0, Domain(0));
-    if state::search::domain_exists(&next.owners, &next.attached, &next.domains, g, d) {
+    let next = attachments::attach_at(s, i, 0, Domain(0));
+    if attachments::domain_exists(&next.owners, &next.attached, &next.domains, g, d) {
         return next;
     }
     let key = key_of(g, d);
@@ -44,16 +44,16 @@ pub(crate) fn move_to(s: State, t: &mut [u64], g: Guest, i: usize, d: Domain) ->
     ensures { λ r. ⌜ device r (now (t .exit)) ≡ moved (device s (now (t .entry))) g i d ⌝ }
 {
     if 32 <= i {
-        return state::attachments::attach_at(s, i, 1, d);
+        return attachments::attach_at(s, i, 1, d);
     }
     let flag = s.attached[i];
     let was = s.domains[i];
     if flag != 1 {
-        return state::attachments::attach_at(s, i, 1, d);
+        return attachments::attach_at(s, i, 1, d);
     }
     if was == d.0 {
         return s;
     }
     let next = leave(s, t, g, i, Domain(was));
-    state::attachments::attach_at(next, i, 1, d)
+    attachments::attach_at(next, i, 1, d)
 }

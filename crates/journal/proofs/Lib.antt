@@ -1,9 +1,4 @@
-pub mod Fields
-pub mod Reading
 pub mod Repeating
 pub mod Longer
 pub mod Streaming
-pub mod Telling
-pub mod Counting
-pub mod Moving
 pub mod Playing

@@ -11,12 +11,12 @@ use borrow.Author.Tests.{eqb-true, eqb-false, ltb-false, ne-eqb, le-ltb}
 use Rattle.laws.specs.Bytes.{le, field}
 use Rattle.laws.proofs.Tests.{either-way, true-false}
 use Rattle.rules.specs.Sizes.{maxFaults}
-use Rattle.journal.specs.declared.items.Item.{Item}
-use Rattle.journal.specs.declared.items.Item.the-variants.{Cut, Wrong, NamedGuest, NamedEndpoint, Start, Request, Access, Reset, Fetch}
-use Rattle.journal.specs.declared.player.Player.{Player}
-use Rattle.journal.specs.Items.{GUEST, ENDPOINT, START, ACCESS, RESET, FETCH, bodyLength, kindOf, sizeOf, guestAt, endpointAt, guestFields, startFields, requestBytes, taken, front, Fits}
-use Rattle.journal.specs.Turns.{Turn, idle, turnOf, turn}
-use Rattle.journal.proofs.Reading.{works, front-fits}
+use Rattle.items.specs.declared.Item.{Item}
+use Rattle.items.specs.declared.Item.the-variants.{Cut, Wrong, NamedGuest, NamedEndpoint, Start, Request, Access, Reset, Fetch}
+use Rattle.playing.specs.declared.player.Player.{Player}
+use Rattle.items.specs.Items.{GUEST, ENDPOINT, START, ACCESS, RESET, FETCH, bodyLength, kindOf, sizeOf, guestAt, endpointAt, guestFields, startFields, requestBytes, taken, front, Fits}
+use Rattle.playing.specs.Turns.{Turn, idle, turnOf, turn}
+use Rattle.turns.proofs.Reading.{works, front-fits}
 
 -- two choices by one test
 pub same-choice : {A : Type 0} (b : Bool) (x u y v : A) → (b ≡ true → x ≡ u) → (b ≡ false → y ≡ v) → cond b x y ≡ cond b u v

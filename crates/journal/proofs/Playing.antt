@@ -7,12 +7,12 @@ use native.Mathlib.Nat.{zero-add, add-zero, add-assoc}
 use native.Mathlib.Omega.{arith}
 use lib.ListN.{length, take, drop, length-append, length-drop, take-append-drop}
 use lib.Seq.{length-take-le, take-append-add, drop-append-add, take-append-seam, drop-append-seam, drop-drop}
-use Rattle.lines.specs.Placing.{placed, fetchRoom}
-use Rattle.journal.specs.declared.player.Player.{Player}
-use Rattle.journal.specs.declared.player.Turned.{Turned}
-use Rattle.journal.specs.Turns.{Turn, turn, idle}
+use Rattle.printing.specs.Placing.{placed, fetchRoom}
+use Rattle.playing.specs.declared.player.Player.{Player}
+use Rattle.playing.specs.declared.player.Turned.{Turned}
+use Rattle.playing.specs.Turns.{Turn, turn, idle}
 use Rattle.journal.specs.Journal.{joined, played}
-use Rattle.journal.specs.Telling.{turned, Tells}
+use Rattle.playing.specs.Telling.{turned, Tells}
 use Rattle.journal.proofs.Repeating.{play-full, play-stop, play-step}
 
 -- A LINE PUT AFTER OTHERS

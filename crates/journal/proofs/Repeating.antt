@@ -7,11 +7,11 @@ use native.Mathlib.Omega.{arith}
 use lib.Dec.{ltb, eqb}
 use lib.ListN.{length, drop, length-drop}
 use borrow.Author.Tests.{eqb-false, ne-eqb, lt-ltb, le-ltb}
-use Rattle.lines.specs.Placing.{fetchRoom}
-use Rattle.journal.specs.declared.player.Player.{Player}
-use Rattle.journal.specs.Turns.{Turn, turn, idle}
+use Rattle.printing.specs.Placing.{fetchRoom}
+use Rattle.playing.specs.declared.player.Player.{Player}
+use Rattle.playing.specs.Turns.{Turn, turn, idle}
 use Rattle.journal.specs.Journal.{joined, playedFor, played}
-use Rattle.journal.proofs.Reading.{turn-reads}
+use Rattle.turns.proofs.Reading.{turn-reads}
 
 -- two terms that differ only where a test fails
 either-same : {A : Type 0} (b : Bool) (x y z : A) → (b ≡ false → y ≡ z) → cond b x y ≡ cond b x z

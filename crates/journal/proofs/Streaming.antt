@@ -11,16 +11,16 @@ use lib.Seq.{drop-append-le, drop-drop}
 use borrow.Author.Tests.{eqb-true, eqb-false, ne-eqb, not-true}
 use Rattle.laws.proofs.Tests.{either-way, true-false}
 use Rattle.rules.specs.Sizes.{maxGuests, maxEndpoints}
-use Rattle.lines.specs.Lines.{badLine, endLine}
-use Rattle.lines.specs.Placing.{fetchRoom}
-use Rattle.journal.specs.declared.items.Item.{Item}
-use Rattle.journal.specs.declared.items.Item.the-variants.{Cut, Wrong, NamedGuest, NamedEndpoint, Start, Request, Access, Reset, Fetch}
-use Rattle.journal.specs.declared.player.Player.{Player}
-use Rattle.journal.specs.Items.{sizeOf, front}
-use Rattle.journal.specs.Turns.{Turn, idle, allowed, guestTurn, endpointTurn, startTurn, requestTurn, accessTurn, resetTurn, fetchTurn, turnOf, turn}
+use Rattle.printing.specs.Plain.{badLine, endLine}
+use Rattle.printing.specs.Placing.{fetchRoom}
+use Rattle.items.specs.declared.Item.{Item}
+use Rattle.items.specs.declared.Item.the-variants.{Cut, Wrong, NamedGuest, NamedEndpoint, Start, Request, Access, Reset, Fetch}
+use Rattle.playing.specs.declared.player.Player.{Player}
+use Rattle.items.specs.Items.{sizeOf, front}
+use Rattle.playing.specs.Turns.{Turn, idle, allowed, guestTurn, endpointTurn, startTurn, requestTurn, accessTurn, resetTurn, fetchTurn, turnOf, turn}
 use Rattle.journal.specs.Journal.{outputFor, outputFrom, joined, playedFor, continued, Streams}
-use Rattle.journal.proofs.Fields.{front-none}
-use Rattle.journal.proofs.Reading.{turn-reads}
+use Rattle.items.proofs.Fields.{front-none}
+use Rattle.turns.proofs.Reading.{turn-reads}
 use Rattle.journal.proofs.Longer.{isCut, same-choice, turn-more}
 
 -- A TURN THAT READS NOTHING

@@ -6,15 +6,10 @@ use mathlib.Core.List.{List, [], _∷_, _++_}
 use lib.Dec.{ltb, eqb}
 use lib.ListN.{length, drop, replicate}
 use Rattle.rules.specs.Sizes.{tableWords}
-use Rattle.rules.specs.State.{zeroState}
-use Rattle.lines.specs.Lines.{badLine, endLine}
-use Rattle.lines.specs.Placing.{fetchRoom}
-use Rattle.journal.specs.declared.player.Player.{Player}
-use Rattle.journal.specs.Turns.{Turn, turn, naming, idle}
-
--- before the first record nothing is named, and the table is zero
-abbrev pub fresh : Player
-fresh = naming zeroState
+use Rattle.printing.specs.Plain.{badLine, endLine}
+use Rattle.printing.specs.Placing.{fetchRoom}
+use Rattle.playing.specs.declared.player.Player.{Player}
+use Rattle.playing.specs.Turns.{Turn, turn, fresh, idle}
 
 -- what the rest s of a journal prints, from offset `at` on: "prints `bad journal at N` (N the kind byte's offset, decimal) and
 -- stops. A journal read to its end, an empty one too, prints `E` last." Each record has a byte at least, so more than
@@ -29,7 +24,7 @@ outputFor (suc n) at p t s =
 abbrev pub outputFrom : ℕ → Player → List ℕ → List ℕ → List ℕ
 outputFrom at p t s = outputFor (suc (length s)) at p t s
 
--- what a journal prints
+-- what a journal prints: before its first record nothing is named, and the table is zero
 abbrev pub output : List ℕ → List ℕ
 output s = outputFrom 0 fresh (replicate tableWords 0) s
 

@@ -2,13 +2,11 @@
 ghost use Prim.Native.Nat.{_+_, _≤_};
 ghost use lib.ListN.{length};
 ghost use mathlib.Core.Path.{_≡_};
-ghost use Rattle.lines.specs.Placing.{lineRoom, written, writtenCount};
+ghost use Rattle.printing.specs.Placing.{lineRoom, written, writtenCount};
 ghost use Rattle.journal.specs.Journal.{played, lastLine};
-ghost use Rattle.journal.specs.Telling.{Tells};
-use crate::player::Player;
-use crate::player::Turned;
-use crate::turns;
-use lines::put;
+ghost use Rattle.playing.specs.Telling.{Tells};
+use playing::player::Player;
+use playing::player::Turned;
 
 // The room that the lines of one record may take.
 const TURN_ROOM: usize = 848;
@@ -55,7 +53,7 @@ pub fn end(out: &mut [u8], left: usize, offset: u64) -> usize
     ensures { λ r. ⌜ (r ≡ writtenCount lineRoom 0 (lastLine left offset) (now (out .entry))) × (now (out .exit) ≡ written lineRoom 0 (lastLine left offset) (now (out .entry))) ⌝ }
 {
     if left == 0 {
-        return put::put_end(out, 0);
+        return printing::put_end(out, 0);
     }
-    put::put_bad(out, 0, offset)
+    printing::put_bad(out, 0, offset)
 }

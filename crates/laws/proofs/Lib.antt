@@ -1,5 +1,6 @@
 pub mod Tests
 pub mod Filters
 pub mod Tables
+pub mod Turns
 pub mod Owners
 pub mod Runs

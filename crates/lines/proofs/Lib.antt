@@ -1,3 +1,1 @@
-pub mod Numbers
-pub mod Places
-pub mod Wording
+mod Wording

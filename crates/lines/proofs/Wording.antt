@@ -1,19 +1,39 @@
 -- Laws of the lines: each as the pieces that are put one after the other.
-use Prim.Native.Nat.{ℕ, suc, _+_, _-_, _*_, _≤_, _<_}
-use mathlib.Core.Path.{_≡_}
+use Prim.Native.Nat.{ℕ, zero, suc, _+_, _-_, _*_, _/_, _%_, _≤_, _<_}
+use mathlib.Core.Path.{_≡_, refl}
 use mathlib.Core.Bool.{true}
 use mathlib.Core.List.{List, [], _∷_, _++_, append-assoc}
 use native.Mathlib.Omega.{arith}
 use borrow.Author.Tests.{eq-eqb, ne-eqb, leb-true}
 use lib.Dec.{leb}
 use lib.ListN.{length, getD, take, drop}
-use lib.Seq.{drop-drop}
+use lib.Seq.{take-suc, drop-drop}
 use Rattle.laws.proofs.Tests.{both-left, both-right}
 use Rattle.rules.specs.declared.Answer.{Answer}
 use Rattle.rules.specs.Answers.{number, usedLength, addressOf, fetchedCount}
-use Rattle.lines.specs.Text.{decimal, address, hexBytes}
-use Rattle.lines.specs.Lines.{newline, numberLine, requestLine, accessLine, recordLines, fetchLines, fetchFits}
-use Rattle.lines.proofs.Numbers.{decimal-one, number-text, used-text}
+use Rattle.rules.specs.declared.Answer.the-variants.{Done, Served, Through, Fetched, NoSuchGuest, Unsound, UnknownType, WrongLength, BadConfiguration, UnknownEndpoint, Unattached, Unmapped}
+use Rattle.printing.specs.Text.{digit, decimal, address, hexBytes}
+use Rattle.printing.specs.Plain.{newline, numberLine}
+use Rattle.printing.proofs.Numbers.{decimal-one, one-digit, number-text}
+use Rattle.lines.specs.Lines.{requestLine, accessLine, recordLines, fetchLines, fetchFits}
+
+-- an answer's used length has one digit
+pub used-small : (a : Answer) → usedLength a ≤ 4
+used-small Done = omega arith
+used-small Served = omega arith
+used-small (Through x) = omega arith
+used-small (Fetched n) = omega arith
+used-small NoSuchGuest = omega arith
+used-small Unsound = omega arith
+used-small UnknownType = omega arith
+used-small WrongLength = omega arith
+used-small BadConfiguration = omega arith
+used-small UnknownEndpoint = omega arith
+used-small Unattached = omega arith
+used-small Unmapped = omega arith
+
+pub used-text : (a : Answer) → decimal (usedLength a) ≡ (48 + usedLength a) ∷ []
+used-text a = one-digit (usedLength a) (omega (arith, used-small a))
 
 -- the start of a request's line
 abbrev pub requestHead : ℕ → ℕ → List ℕ
@@ -26,10 +46,6 @@ accessHead = 65 ∷ 32 ∷ 48 ∷ 32 ∷ []
 -- the start of the lines of a fetch that is not refused
 abbrev pub fetchHead : List ℕ
 fetchHead = 70 ∷ 32 ∷ 48 ∷ 32 ∷ []
-
--- "bad journal at "
-abbrev pub badHead : List ℕ
-badHead = 98 ∷ 97 ∷ 100 ∷ 32 ∷ 106 ∷ 111 ∷ 117 ∷ 114 ∷ 110 ∷ 97 ∷ 108 ∷ 32 ∷ 97 ∷ 116 ∷ 32 ∷ []
 
 module _ (a : Answer) where
   module _ (h : number a ≡ 0) where
@@ -72,3 +88,13 @@ records-next n i b h =
     let e : n - i ≡ suc (n - (i + 1)) = omega arith in
     let f : 24 * (i + 1) ≡ 24 * i + 24 = omega arith in
     rw (e, f, ← drop-drop, append-assoc)
+
+-- bytes in hex, those of a list and then those of another
+hexBytes-append : (xs ys : List ℕ) → hexBytes (xs ++ ys) ≡ hexBytes xs ++ hexBytes ys
+hexBytes-append [] ys = refl
+hexBytes-append (x ∷ xs) ys = rw (hexBytes-append xs ys)
+
+-- the last of some bytes in hex
+pub hexBytes-next : (bs : List ℕ) (i : ℕ) → 1 ≤ i → i ≤ length bs → hexBytes (take i bs) ≡ hexBytes (take (i - 1) bs) ++ (digit (getD bs (i - 1) 0 / 16) ∷ digit (getD bs (i - 1) 0 % 16) ∷ [])
+hexBytes-next bs zero h l = absurd (omega arith)
+hexBytes-next bs (suc j) h l = let e : suc j - 1 ≡ j = omega arith in rw (e, take-suc bs j 0 l, hexBytes-append)

@@ -1,4 +1,4 @@
--- "Journal and its output": what each line says. Every line ends in a newline.
+-- "Journal and its output": what the lines of a request, an access and a fetch say. Every line ends in a newline.
 use Prim.Native.Nat.{ℕ, zero, suc, _*_}
 use mathlib.Core.Bool.{Bool, cond, _&&_}
 use mathlib.Core.List.{List, [], _∷_, _++_}
@@ -7,39 +7,8 @@ use lib.ListN.{length, getD, take, drop}
 use Rattle.rules.specs.declared.Answer.{Answer}
 use Rattle.rules.specs.Sizes.{maxFaults, faultSize}
 use Rattle.rules.specs.Answers.{number, usedLength, addressOf, fetchedCount}
-use Rattle.lines.specs.Text.{decimal, address, hexBytes}
-
--- the letters and marks of the lines
-abbrev pub newline : ℕ
-newline = 10
-
-abbrev pub space : ℕ
-space = 32
-
-abbrev pub dash : ℕ
-dash = 45
-
-abbrev pub letterA : ℕ
-letterA = 65
-
-abbrev pub letterE : ℕ
-letterE = 69
-
-abbrev pub letterF : ℕ
-letterF = 70
-
-abbrev pub letterR : ℕ
-letterR = 82
-
-abbrev pub letterS : ℕ
-letterS = 83
-
-abbrev pub letterZ : ℕ
-letterZ = 90
-
--- "`S`, `Z` (reset) and `A` give the number": a letter and a number
-unfoldable pub numberLine : ℕ → Answer → List ℕ
-numberLine letter a = letter ∷ space ∷ decimal (number a) ++ (newline ∷ [])
+use Rattle.printing.specs.Text.{decimal, address, hexBytes}
+use Rattle.printing.specs.Plain.{newline, space, dash, letterA, letterF, letterR, numberLine}
 
 -- "`R` gives number, used length, status; an unhandled request prints `R 3 0 -` (with its number)": of the answer and the
 -- writable part as left
@@ -69,12 +38,3 @@ fetchLines a buffer =
 -- a fetch whose records are at most 16, and stand whole in the buffer
 unfoldable pub fetchFits : Answer → List ℕ → Bool
 fetchFits a buffer = leb (fetchedCount a) maxFaults && leb (faultSize * fetchedCount a) (length buffer)
-
--- "prints `bad journal at N` (N the kind byte's offset, decimal)"
-unfoldable pub badLine : ℕ → List ℕ
-badLine at =
-    98 ∷ 97 ∷ 100 ∷ space ∷ 106 ∷ 111 ∷ 117 ∷ 114 ∷ 110 ∷ 97 ∷ 108 ∷ space ∷ 97 ∷ 116 ∷ space ∷ decimal at ++ (newline ∷ [])
-
--- "A journal read to its end, an empty one too, prints `E` last."
-abbrev pub endLine : List ℕ
-endLine = letterE ∷ newline ∷ []

@@ -1,7 +1,3 @@
-// The lines that a journal prints, put into a lent buffer.
-mod decimal;
-mod hex;
-mod placing;
+// The lines of a request, an access and a fetch, put into a lent buffer.
 pub mod put;
 mod records;
-mod text;

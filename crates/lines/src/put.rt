@@ -1,49 +1,32 @@
-// Each line that a journal prints, put at a place of a lent buffer where that has room for it. The number of bytes put is
-// given back: 0 where there is not the room, and the buffer stays.
-use crate::decimal::put_decimal;
-use crate::hex::address_line;
-use crate::placing::put_bytes;
+// The lines of a request, an access and a fetch, each put at a place of a lent buffer where that has room for it. The number
+// of bytes put is given back: 0 where there is not the room, and the buffer stays.
 use crate::records::fetch_fits;
 use crate::records::put_records;
+use answers::address_of;
+use answers::count_of;
+use answers::number_of;
+use answers::used_of;
+use printing::LINE_ROOM;
+use printing::address_line;
+use printing::has_room;
+use printing::put_bytes;
+use printing::put_decimal;
+use printing::put_number;
 use rules::Answer;
-use viommu::numbers::address_of;
-use viommu::numbers::count_of;
-use viommu::numbers::number_of;
-use viommu::numbers::used_of;
 ghost use mathlib.Core.Path.{_≡_};
 ghost use mathlib.Core.Bool.{cond};
 ghost use lib.ListN.{getD};
-ghost use Rattle.lines.specs.Lines.{numberLine, requestLine, accessLine, fetchLines, badLine, endLine, fetchFits};
-ghost use Rattle.lines.specs.Placing.{lineRoom, fetchRoom, written, writtenCount};
+ghost use Rattle.lines.specs.Lines.{requestLine, accessLine, fetchLines, fetchFits};
+ghost use Rattle.printing.specs.Placing.{lineRoom, fetchRoom, written, writtenCount};
 
-// The room that is asked for a fetch's lines, and for any other line.
+// The room that is asked for a fetch's lines.
 const FETCH_ROOM: usize = 848;
-
-const LINE_ROOM: usize = 64;
-
-// A letter and an answer's number.
-fn number_line(letter: u8, a: Answer) -> [u8; 4]
-    ensures { λ r. ⌜ r ≡ numberLine letter a ⌝ }
-{
-    [letter, 32, 48 + number_of(a), 10]
-}
-
-// Puts a letter and an answer's number.
-pub fn put_number(out: &mut [u8], at: usize, letter: u8, a: Answer) -> usize
-    ensures { λ r. ⌜ (r ≡ writtenCount lineRoom at (numberLine letter a) (now (out .entry))) × (now (out .exit) ≡ written lineRoom at (numberLine letter a) (now (out .entry))) ⌝ }
-{
-    if out.len() < LINE_ROOM || out.len() - LINE_ROOM < at {
-        return 0;
-    }
-    let line = number_line(letter, a);
-    put_bytes(out, at, &line) - at
-}
 
 // Puts a request's number, used length and status; a dash for the status where the request was not worked.
 pub fn put_request(out: &mut [u8], at: usize, a: Answer, writable: &[u8]) -> usize
     ensures { λ r. ⌜ (r ≡ writtenCount lineRoom at (requestLine a (now (writable .entry))) (now (out .entry))) × (now (out .exit) ≡ written lineRoom at (requestLine a (now (writable .entry))) (now (out .entry))) ⌝ }
 {
-    if out.len() < LINE_ROOM || out.len() - LINE_ROOM < at {
+    if !has_room(out.len(), at, LINE_ROOM) {
         return 0;
     }
     let number = number_of(a);
@@ -60,39 +43,16 @@ pub fn put_request(out: &mut [u8], at: usize, a: Answer, writable: &[u8]) -> usi
 pub fn put_access(out: &mut [u8], at: usize, a: Answer) -> usize
     ensures { λ r. ⌜ (r ≡ writtenCount lineRoom at (accessLine a) (now (out .entry))) × (now (out .exit) ≡ written lineRoom at (accessLine a) (now (out .entry))) ⌝ }
 {
-    if out.len() < LINE_ROOM || out.len() - LINE_ROOM < at {
-        return 0;
-    }
     if number_of(a) != 0 {
-        let line = number_line(65, a);
-        return put_bytes(out, at, &line) - at;
+        return put_number(out, at, 65, a);
+    }
+    if !has_room(out.len(), at, LINE_ROOM) {
+        return 0;
     }
     let head = [65, 32, 48, 32];
     let next = put_bytes(out, at, &head);
     let line = address_line(address_of(a));
     put_bytes(out, next, &line) - at
-}
-
-// Puts the offset at which a journal is bad.
-pub fn put_bad(out: &mut [u8], at: usize, offset: u64) -> usize
-    ensures { λ r. ⌜ (r ≡ writtenCount lineRoom at (badLine offset) (now (out .entry))) × (now (out .exit) ≡ written lineRoom at (badLine offset) (now (out .entry))) ⌝ }
-{
-    if out.len() < LINE_ROOM || out.len() - LINE_ROOM < at {
-        return 0;
-    }
-    let next = put_bytes(out, at, b"bad journal at ");
-    put_decimal(out, next, offset) - at
-}
-
-// Puts the last line of a journal that was read to its end.
-pub fn put_end(out: &mut [u8], at: usize) -> usize
-    ensures { λ r. ⌜ (r ≡ writtenCount lineRoom at endLine (now (out .entry))) × (now (out .exit) ≡ written lineRoom at endLine (now (out .entry))) ⌝ }
-{
-    if out.len() < LINE_ROOM || out.len() - LINE_ROOM < at {
-        return 0;
-    }
-    let line = [69, 10];
-    put_bytes(out, at, &line) - at
 }
 
 // Puts a fetch's number, its count and its records; nothing where they are above 16 or the buffer has them not all.
@@ -102,12 +62,11 @@ pub fn put_fetch(out: &mut [u8], at: usize, a: Answer, buffer: &[u8]) -> usize
     if !fetch_fits(a, buffer) {
         return 0;
     }
-    if out.len() < FETCH_ROOM || out.len() - FETCH_ROOM < at {
+    if !has_room(out.len(), at, FETCH_ROOM) {
         return 0;
     }
     if number_of(a) != 0 {
-        let line = number_line(70, a);
-        return put_bytes(out, at, &line) - at;
+        return put_number(out, at, 70, a);
     }
     let head = [70, 32, 48, 32];
     let next = put_bytes(out, at, &head);

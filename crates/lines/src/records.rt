@@ -1,13 +1,16 @@
 // The lines of a fetch's records.
-use crate::hex::record_line;
-use crate::placing::put_bytes;
+use answers::count_of;
+use printing::hex_of;
+use printing::put_bytes;
 use rules::Answer;
-use viommu::numbers::count_of;
 ghost use mathlib.Core.Path.{_≡_};
+ghost use mathlib.Core.List.{_∷_, [], _++_};
 ghost use Prim.Native.Nat.{_+_, _*_, _≤_};
 ghost use lib.ListN.{length};
 ghost use Rattle.lines.specs.Lines.{recordLines, fetchFits};
-ghost use Rattle.lines.specs.Placing.{placed};
+ghost use Rattle.printing.specs.Text.{hexBytes};
+ghost use Rattle.printing.specs.Plain.{newline};
+ghost use Rattle.printing.specs.Placing.{placed};
 
 // Whether a fetch gave at most 16 records, and the buffer has them all.
 pub(crate) fn fetch_fits(a: Answer, buffer: &[u8]) -> bool
@@ -18,6 +21,22 @@ pub(crate) fn fetch_fits(a: Answer, buffer: &[u8]) -> bool
         return false;
     }
     24 * count <= buffer.len()
+}
+
+// The 24 bytes of a fault record in 48 hex digits and a newline.
+fn record_line(bytes: &[u8]) -> [u8; 49]
+    requires { ⌜ length (now bytes) ≡ 24 ⌝ }
+    ensures { λ r. ⌜ r ≡ hexBytes (now (bytes .entry)) ++ (newline ∷ []) ⌝ }
+{
+    let mut line = [10; 49];
+    let mut i: usize = 24;
+    while 0 < i {
+        i -= 1;
+        let digits = hex_of(bytes[i]);
+        line[2 * i + 1] = digits[1];
+        line[2 * i] = digits[0];
+    }
+    line
 }
 
 // A line for each of the first `count` records of a buffer, put at a place; the place after them is given back.

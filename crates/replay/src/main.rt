@@ -1,10 +1,9 @@
 // Replays a journal from standard input and prints its lines. It is read in blocks; a record that a block cuts is kept, and
 // the next block comes after it.
 ghost use Rattle.io.specs.Counts.{Counts};
-use journal::blocks;
 use journal::play;
-use journal::player;
-use journal::player::Player;
+use playing::player;
+use playing::player::Player;
 
 // How far a journal has come: the bytes of the block that are held, how many of them are worked, and where in the journal the
 // first that is not stands.

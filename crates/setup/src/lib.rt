@@ -141,8 +141,8 @@ fn is_good(s: Settings, endpoints: &[u32], owners: &[u8]) -> bool
     if n != owners.len() {
         return false;
     }
-    let set = state::configuration::good_settings(s);
-    let lists = state::configuration::good_lists(s, n, endpoints, owners);
+    let set = configuration::good_settings(s);
+    let lists = configuration::good_lists(s, n, endpoints, owners);
     set & lists
 }
 
@@ -162,7 +162,7 @@ pub fn set_up(settings: Settings, endpoints: &[u32], owners: &[u8], t: &mut [u64
             state: zero_state(),
         };
     }
-    table::clear(t);
+    rewriting::clear(t);
     Given {
         answer: Answer::Done,
         state: start_state(settings, endpoints, owners),

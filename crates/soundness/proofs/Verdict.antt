@@ -7,13 +7,13 @@ use mathlib.Core.Option.{Option, some}
 use native.Mathlib.Omega.{arith}
 use lib.Dec.{leb, ltb, eqb}
 use lib.ListN.{length, getD, take, length-take}
-use borrow.Author.Tests.{lt-ltb, leb-true, not-true, eqb-true, eqb-false}
+use borrow.Author.Tests.{lt-ltb, le-leb, leb-true, not-true, eqb-true, eqb-false}
 use Rattle.laws.specs.Lists.{all?, every?, pairwise, below, firstFailing}
 use Rattle.laws.proofs.Tests.{Each, both-left, both-right, true-false, opened, closed, cleared}
 use Rattle.laws.proofs.Owners.{owner-among}
 use Rattle.rules.specs.declared.Settings.{Settings}
 use Rattle.rules.specs.declared.Mapping.{Mapping}
-use Rattle.rules.specs.Sizes.{maxEndpoints, maxRecords, tableWords}
+use Rattle.rules.specs.Sizes.{maxGuests, maxEndpoints, maxRecords, tableWords}
 use Rattle.rules.specs.Configuration.{share, goodSettings, goodLists, good, settingsTests, listTests}
 use Rattle.rules.specs.Table.{records, guestOf, domainOf, before}
 use Rattle.rules.specs.State.{Device, configOf, read}
@@ -21,12 +21,13 @@ use Rattle.rules.specs.Guests.{own, part, recordsOf}
 use Rattle.rules.specs.Requests.{NOENT}
 use Rattle.rules.specs.Handlers.{exists, isIn, formSteps}
 use Rattle.rules.specs.Sound.{guest, passes, recordGood, soundTests, sound}
+use Rattle.rules.proofs.Words.{length-records}
 use Rattle.rules.proofs.Records.{wide, apart}
 use Rattle.rules.proofs.Parts.{passes-none, form-wide}
 use Rattle.table.specs.Records.{noMapping}
-use Rattle.soundness.specs.Pieces.{limits, frameTests, framed}
-use Rattle.soundness.specs.Scan.{formGood, ownGood, domainGood, scan, sharesKept}
-use Rattle.soundness.proofs.Order.{scan-is}
+use Rattle.sound_records.specs.Scan.{limits, formGood, ownGood, domainGood, scan, sharesKept, placesTests}
+use Rattle.sound_records.proofs.Order.{scan-is}
+use Rattle.soundness.specs.Pieces.{frameTests, framed}
 
 -- one test that fails is enough
 failing : (l : List Bool) (k : ℕ) → getD l k true ≡ false → every? l ≡ false
@@ -54,6 +55,19 @@ both-passed d j k h =
     let l = soundTests (configOf (d .state)) (read d) d in
     (both-left (getD l j true) (getD l k true) h, both-right (getD l j true) (getD l k true) h)
 
+-- what a test says whose first part is known to pass
+pub granted : {r : Bool} (a b v : Bool) → a ≡ true → r ≡ (a && b) → r ≡ v → b ≡ v
+granted a b v h e k = sym (e ∙ ap (λ (x : Bool). x && b) h) ∙ k
+
+-- a good configuration, as the tests of logs and records ask for it
+settings-guests : (s : Settings) → goodSettings s ≡ true → leb (s .guests) maxGuests ≡ true
+unfolding goodSettings
+settings-guests s h = opened (settingsTests s) h .1 .0
+
+settings-mask : (s : Settings) → goodSettings s ≡ true → 0 < s .mask
+unfolding goodSettings
+settings-mask s h = let n : s .mask ≡ 0 → ⊥ = eqb-false (s .mask) 0 (not-true _ (opened (settingsTests s) h .1 .1 .1 .1 .1 .0)) in omega arith
+
 -- the tests that come before all others
 module _ (s : Settings) (n m : ℕ) (es os ws : List ℕ) where
   pub unframed : (k : ℕ) → getD (frameTests s n m es os ws) k true ≡ false → framed s n m es os ws ≡ false
@@ -70,6 +84,19 @@ module _ (s : Settings) (n m : ℕ) (es os ws : List ℕ) where
   listed-fits h =
       let t = in-frame h in
       omega (arith, eqb-true (length (take n es)) n (t .1 .1 .0), leb-true (length (take n es)) maxEndpoints (opened (listTests s (take n es) (take n os)) (t .1 .1 .1 .1 .0) .1 .0))
+
+  pub frame-guests : framed s n m es os ws ≡ true → leb (s .guests) maxGuests ≡ true
+  frame-guests h = settings-guests s (in-frame h .1 .1 .1 .0)
+
+  pub frame-endpoints : framed s n m es os ws ≡ true → leb n maxEndpoints ≡ true
+  frame-endpoints h = le-leb n 32 (listed-fits h)
+
+  -- guests, endpoints and records have places
+  pub frame-places : framed s n m es os ws ≡ true → every? (placesTests s n m ws) ≡ true
+  frame-places h =
+      let t = in-frame h in
+      let l : m ≤ length (records ws) = omega (arith, length-records ws, leb-true m 256 (t .1 .0), eqb-true (length ws) 1280 (t .0)) in
+      closed (placesTests s n m ws) (frame-guests h, (lt-ltb 0 (s .mask) (settings-mask s (t .1 .1 .1 .0)), (frame-endpoints h, (le-leb m (length (records ws)) l, tt))))
 
   pub frame-last : eqb (length ws) tableWords ≡ true → leb m maxRecords ≡ true → eqb (length (take n es)) n ≡ true → goodSettings s ≡ true → goodLists s (take n es) (take n os) ≡ framed s n m es os ws
   unfolding framed
@@ -88,23 +115,10 @@ frame-refused d h = go (sound d) refl
         true-false (every? frame) (closed frame (t .0, (t .1 .1 .1 .0, (t .1 .1 .0, (both-left g l (t .1 .0), (both-right g l (t .1 .0), tt)))))) h
     go false e = refl
 
--- as many endpoints as the state counts
-pub listed-within : (n : ℕ) (l : List ℕ) → eqb (length (take n l)) n ≡ true → n ≤ length l
-listed-within n l h = omega (arith, eqb-true (length (take n l)) n h, length-take n l)
-
 -- all tests but four pass
 rest-of : (a b c d e f g h i j k l m n : Bool) → a ≡ true → b ≡ true → c ≡ true → d ≡ true → f ≡ true → j ≡ true → k ≡ true → l ≡ true → m ≡ true → n ≡ true
     → every? (a ∷ b ∷ c ∷ d ∷ e ∷ f ∷ g ∷ h ∷ i ∷ j ∷ k ∷ l ∷ m ∷ n ∷ []) ≡ (e && (g && (h && i)))
 rest-of a b c d e f g h i j k l m n ha hb hc hd hf hj hk hl hm hn = rw (ha, hb, hc, hd, hf, hj, hk, hl, hm, hn, and-true i)
-
--- a good configuration, as the pass over the records asks for it
-pub settings-guests : (s : Settings) → goodSettings s ≡ true → s .guests ≤ 4
-unfolding goodSettings
-settings-guests s h = leb-true (s .guests) 4 (opened (settingsTests s) h .1 .0)
-
-pub settings-mask : (s : Settings) → goodSettings s ≡ true → 0 < s .mask
-unfolding goodSettings
-settings-mask s h = let n : s .mask ≡ 0 → ⊥ = eqb-false (s .mask) 0 (not-true _ (opened (settingsTests s) h .1 .1 .1 .1 .1 .0)) in omega arith
 
 lists-owners : (s : Settings) (es os : List ℕ) → goodLists s es os ≡ true → all? (λ o. ltb o (s .guests)) os ≡ true
 unfolding goodLists

@@ -1,8 +1,6 @@
 // The test that a state and a table are sound.
 mod attachments;
-mod logs;
-mod records;
-mod zeros;
+mod unused;
 
 ghost use mathlib.Core.Path.{_≡_};
 ghost use lib.Dec.{eqb};
@@ -10,13 +8,14 @@ ghost use lib.ListN.{length, take};
 ghost use Rattle.rules.specs.Sound.{sound};
 ghost use Rattle.soundness.specs.Pieces.{framed, deviceOf};
 use attachments::attachments_good;
-use logs::counts_good;
-use logs::faults_good;
-use records::records_good;
+use configuration::good_lists;
+use configuration::good_settings;
 use rules::Settings;
-use state::configuration::good_lists;
-use state::configuration::good_settings;
-use zeros::unused_zero;
+use sound_logs::counts_good;
+use sound_logs::faults_good;
+use sound_records::records_good;
+use unused::unused_zero;
+use zeros::zero_u64;
 
 // The words of the table.
 const TABLE_WORDS: usize = 1280;
@@ -112,7 +111,7 @@ pub fn is_sound<'a>(
     ) {
         return false;
     }
-    if !table::zero_from(t, RECORD_WORDS * live) {
+    if !zero_u64(t, RECORD_WORDS * live) {
         return false;
     }
     records_good(settings, listed, live, owners, attached, domains, t)

@@ -1,4 +1,2 @@
 pub mod Rewriting
-pub mod Shifting
-pub mod Turns
 pub mod Offsets

@@ -1,7 +1,7 @@
--- Places of arrays, and their offsets in bytes, fit a word.
-use Prim.Native.Nat.{ℕ, _*_, _+_, _<_}
+-- Places of the state's arrays, and their offsets in bytes, fit a word.
+use Prim.Native.Nat.{ℕ, _*_, _<_}
 use native.Mathlib.Omega.{arith}
-use mir.Syntax.{w32, w64}
+use mir.Syntax.{w64}
 use mir.Val.{Fits}
 
 module _ (i : ℕ) (h : i < 64) where
@@ -14,20 +14,6 @@ module _ (i : ℕ) (h : i < 64) where
   pub times-eight : Fits w64 (i * 8)
   times-eight = record { fits = omega arith }
 
--- of the four guests, and of their sixteen faults each
-module _ (g : ℕ) (h : g < 4) where
-  pub guest-below : g < 64
-  guest-below = omega arith
-
-  pub guest-faults : Fits w64 (16 * g)
-  guest-faults = record { fits = omega arith }
-
-  pub fault-below : (n : ℕ) → n < 16 → 16 * g + n < 64
-  fault-below n k = omega arith
-
--- counts that are below their limits rise by one
-pub logged-rises : (n : ℕ) → n < 16 → Fits w64 (n + 1)
-logged-rises n h = record { fits = omega arith }
-
-pub lost-rises : (n : ℕ) → n < 65535 → Fits w32 (n + 1)
-lost-rises n h = record { fits = omega arith }
+-- a guest's place is among them
+pub guest-below : (g : ℕ) → g < 4 → g < 64
+guest-below g h = omega arith

@@ -1,4 +1,1 @@
 pub mod Fields
-pub mod Changes
-pub mod Places
-pub mod Search

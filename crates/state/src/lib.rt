@@ -1,6 +1,13 @@
-// What calls change in the device's state, and what they look up in it.
-pub mod attachments;
-pub mod configuration;
-pub mod faults;
-mod numbers;
-pub mod search;
+// What the crates over the device's state share: its setters and the laws of its arrays, and the smaller of two numbers.
+ghost use mathlib.Core.Path.{_≡_};
+ghost use Prim.Native.Nat.{min};
+
+// The smaller of two numbers.
+pub fn least(a: usize, b: usize) -> usize
+    ensures { λ r. ⌜ r ≡ min a b ⌝ }
+{
+    if a < b {
+        return a;
+    }
+    b
+}

@@ -1,16 +1,9 @@
--- What the functions of the table give, over the records that its words hold.
-use Prim.Native.Nat.{ℕ, suc, _+_, _-_, _*_}
-use mathlib.Core.Bool.{Bool, cond, not, _&&_}
-use mathlib.Core.List.{List, [], _∷_, _++_}
-use mathlib.Core.Option.{Option, some, none}
-use lib.Dec.{leb, ltb}
-use lib.ListN.{length, getD, take, drop, set, replicate}
-use Rattle.laws.specs.Lists.{keep}
+-- What the words of the table hold.
+use Prim.Native.Nat.{ℕ, _+_}
+use mathlib.Core.List.{List, [], _∷_}
+use lib.ListN.{getD}
 use Rattle.rules.specs.declared.Mapping.{Mapping}
-use Rattle.rules.specs.Sizes.{recordWords}
-use Rattle.rules.specs.Table.{mapping, records, words, before, insert}
-use Rattle.table.specs.declared.Found.{Found}
-use Rattle.table.specs.declared.Found.the-variants.{At, Nothing}
+use Rattle.rules.specs.Table.{mapping}
 
 -- the record of five zeros
 abbrev pub noMapping : Mapping
@@ -25,45 +18,6 @@ spare (a ∷ b ∷ []) = a ∷ b ∷ []
 spare (a ∷ b ∷ c ∷ []) = a ∷ b ∷ c ∷ []
 spare (a ∷ b ∷ c ∷ d ∷ []) = a ∷ b ∷ c ∷ d ∷ []
 
--- the record in the five words from k on, and the words with a record stored there
+-- the record in the five words from k on
 abbrev pub loaded : List ℕ → ℕ → Mapping
 loaded ws k = mapping (getD ws k 0) (getD ws (k + 1) 0) (getD ws (k + 2) 0) (getD ws (k + 3) 0) (getD ws (k + 4) 0)
-
-abbrev pub stored : List ℕ → ℕ → Mapping → List ℕ
-stored ws k r = set (set (set (set (set ws k (r .key)) (k + 1) (r .start)) (k + 2) (r .end)) (k + 3) (r .phys)) (k + 4) (r .flags)
-
--- a lookup's outcome as the code gives it
-unfoldable pub foundOf : Option Mapping → Found
-foundOf none = Nothing
-foundOf (some r) = At r
-
--- how many records stand before the first that r goes before
-abbrev pub placeOf : Mapping → List Mapping → ℕ
-placeOf r [] = 0
-placeOf r (s ∷ l) = cond (before r s) 0 (suc (placeOf r l))
-
--- x at place n of a list
-abbrev pub insertAt : {A : Type 0} → ℕ → A → List A → List A
-insertAt n x l = take n l ++ x ∷ drop n l
-
--- the table with r in its place among the first live records; one with no room for it stays as it is
-unfoldable pub insertedWords : ℕ → Mapping → List ℕ → List ℕ
-insertedWords live r ws =
-    cond (ltb live (length (records ws)))
-    (words (insert r (take live (records ws))) ++ drop (recordWords * (live + 1)) ws)
-    ws
-
--- the record has a key from low to high and lies inside the addresses from a to b
-abbrev pub within : ℕ → ℕ → ℕ → ℕ → Mapping → Bool
-within low high a b r = (leb low (r .key) && leb (r .key) high) && (leb a (r .start) && leb (r .end) b)
-
--- those of the first live records that a removal keeps
-unfoldable pub keptOf : ℕ → ℕ → ℕ → ℕ → ℕ → List ℕ → List Mapping
-keptOf live low high a b ws = keep (λ r. not (within low high a b r)) (take live (records ws))
-
--- the table with those closed up, zeros in the places that this frees, and all else as it was
-unfoldable pub removedWords : ℕ → ℕ → ℕ → ℕ → ℕ → List ℕ → List ℕ
-removedWords live low high a b ws =
-    words (keptOf live low high a b ws)
-    ++ (replicate (recordWords * (length (take live (records ws)) - length (keptOf live low high a b ws))) 0
-    ++ drop (recordWords * length (take live (records ws))) ws)

@@ -1,14 +1,13 @@
 // One record of the table.
 ghost use mathlib.Core.Path.{_≡_};
-ghost use mathlib.Core.List.{_++_};
 ghost use Prim.Native.Nat.{_+_, _*_, _<_, _≤_};
-ghost use lib.ListN.{length, getD, set, take};
-ghost use Rattle.rules.specs.Table.{records, words};
-ghost use Rattle.table.specs.Records.{noMapping, spare, loaded, stored};
+ghost use lib.ListN.{length, getD, take};
+ghost use Rattle.rules.specs.Table.{records};
+ghost use Rattle.table.specs.Records.{noMapping, loaded};
 use rules::Mapping;
 
 // The words of a record.
-pub(crate) const RECORD_WORDS: usize = 5;
+pub const RECORD_WORDS: usize = 5;
 
 // The record in the five words from at on.
 fn load(t: &[u64], at: usize) -> Mapping
@@ -24,32 +23,12 @@ fn load(t: &[u64], at: usize) -> Mapping
     }
 }
 
-// The words with r in the five from at on.
-fn store(t: &mut [u64], at: usize, r: Mapping)
-    requires { ⌜ at + 5 ≤ length (now t) ⌝ }
-    ensures { λ _. ⌜ now (t .exit) ≡ stored (now (t .entry)) at r ⌝ }
-{
-    t[at] = r.key;
-    t[at + 1] = r.start;
-    t[at + 2] = r.end;
-    t[at + 3] = r.phys;
-    t[at + 4] = r.flags;
-}
-
 // Record i, one of the table's.
-pub(crate) fn read(t: &[u64], i: usize) -> Mapping
+fn read(t: &[u64], i: usize) -> Mapping
     requires { ⌜ i < length (records (now t)) ⌝ }
     ensures { λ r. ⌜ r ≡ getD (records (now (t .entry))) i noMapping ⌝ }
 {
     load(t, RECORD_WORDS * i)
-}
-
-// The table with r as record i.
-pub(crate) fn write(t: &mut [u64], i: usize, r: Mapping)
-    requires { ⌜ i < length (records (now t)) ⌝ }
-    ensures { λ _. ⌜ now (t .exit) ≡ words (set (records (now (t .entry))) i r) ++ spare (now (t .entry)) ⌝ }
-{
-    store(t, RECORD_WORDS * i, r)
 }
 
 // Record i, and five zeros past the last.
@@ -69,7 +48,7 @@ pub fn get(t: &[u64], i: usize) -> Mapping
 }
 
 // The smaller of live and the number of whole records.
-pub(crate) fn bounded(t: &[u64], live: usize) -> usize
+pub fn bounded(t: &[u64], live: usize) -> usize
     ensures { λ n. ⌜ (n ≡ length (take live (records (now (t .entry))))) × (n ≤ length (records (now (t .entry)))) × (5 * n ≤ length (now (t .entry))) ⌝ }
 {
     let whole = t.len() / RECORD_WORDS;

@@ -1,5 +1,4 @@
 // The entries for the hypervisor, which is written in C: document 01's numbers, and structs by value.
-pub mod numbers;
 pub mod queries;
 
 ghost use mathlib.Core.Path.{_≡_};
@@ -7,9 +6,6 @@ ghost use Rattle.rules.specs.Answers.{number, usedLength, addressOf, fetchedCou
 ghost use Rattle.rules.specs.Device as rules;
 ghost use Rattle.effects.specs.Flat.{device};
 ghost use Rattle.effects.specs.Setting.{configured};
-use device::calls;
-use device::requests;
-use device::resetting;
 use rules::Endpoint;
 use rules::Guest;
 use rules::Settings;
@@ -66,7 +62,7 @@ pub extern "C" fn viommu_set_up(
     let answer = given.answer;
     let next = given.state;
     SetUpGiven {
-        number: numbers::number_of(answer),
+        number: answers::number_of(answer),
         state: next,
     }
 }
@@ -86,8 +82,8 @@ pub extern "C" fn viommu_request(
     let answer = given.answer;
     let next = given.state;
     RequestGiven {
-        number: numbers::number_of(answer),
-        used: numbers::used_of(answer),
+        number: answers::number_of(answer),
+        used: answers::used_of(answer),
         state: next,
     }
 }
@@ -102,12 +98,12 @@ pub extern "C" fn viommu_access(
 ) -> AccessGiven
     ensures { λ r. ⌜ (r .number ≡ number (rules.step (device s (now (t .entry))) (rules.access-by e address kind) .0 .answer)) × (r .address ≡ addressOf (rules.step (device s (now (t .entry))) (rules.access-by e address kind) .0 .answer)) × (device (r .state) (now (t .entry)) ≡ rules.step (device s (now (t .entry))) (rules.access-by e address kind) .1) ⌝ }
 {
-    let given = calls::access(s, t, e, address, kind);
+    let given = accesses::access(s, t, e, address, kind);
     let answer = given.answer;
     let next = given.state;
     AccessGiven {
-        number: numbers::number_of(answer),
-        address: numbers::address_of(answer),
+        number: answers::number_of(answer),
+        address: answers::address_of(answer),
         state: next,
     }
 }
@@ -116,11 +112,11 @@ pub extern "C" fn viommu_access(
 pub extern "C" fn viommu_reset(s: State, t: &mut [u64], g: Guest) -> ResetGiven
     ensures { λ r. ⌜ (r .number ≡ number (rules.step (device s (now (t .entry))) (rules.reset-of g) .0 .answer)) × (device (r .state) (now (t .exit)) ≡ rules.step (device s (now (t .entry))) (rules.reset-of g) .1) ⌝ }
 {
-    let given = resetting::reset(s, t, g);
+    let given = requests::resetting::reset(s, t, g);
     let answer = given.answer;
     let next = given.state;
     ResetGiven {
-        number: numbers::number_of(answer),
+        number: answers::number_of(answer),
         state: next,
     }
 }
@@ -130,12 +126,12 @@ pub extern "C" fn viommu_fetch(s: State, t: &[u64], g: Guest, buffer: &mut [u8])
     ensures { λ r. ⌜ (r .number ≡ number (rules.step (device s (now (t .entry))) (rules.fetch-for g (now (buffer .entry))) .0 .answer)) × (r .count ≡ fetchedCount (rules.step (device s (now (t .entry))) (rules.fetch-for g (now (buffer .entry))) .0 .answer)) ⌝ }
     ensures { λ r. ⌜ (device (r .state) (now (t .entry)) ≡ rules.step (device s (now (t .entry))) (rules.fetch-for g (now (buffer .entry))) .1) × (now (buffer .exit) ≡ rules.step (device s (now (t .entry))) (rules.fetch-for g (now (buffer .entry))) .0 .buffer) ⌝ }
 {
-    let given = calls::fetch(s, t, g, buffer);
+    let given = fetches::fetch(s, t, g, buffer);
     let answer = given.answer;
     let next = given.state;
     FetchGiven {
-        number: numbers::number_of(answer),
-        count: numbers::count_of(answer),
+        number: answers::number_of(answer),
+        count: answers::count_of(answer),
         state: next,
     }
 }

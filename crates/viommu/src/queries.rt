@@ -12,7 +12,7 @@ use rules::State;
 pub extern "C" fn viommu_held(s: State, t: &[u64], g: Guest) -> usize
     ensures { λ r. ⌜ r ≡ length (recordsOf g (take (s .live) (records (now (t .entry))))) ⌝ }
 {
-    table::held(t, s.live, g)
+    searching::held(t, s.live, g)
 }
 
 // A guest's lost count, 0 for a guest number that there is not.
@@ -20,11 +20,8 @@ pub extern "C" fn viommu_held(s: State, t: &[u64], g: Guest) -> usize
 pub extern "C" fn viommu_lost(s: State, g: Guest) -> u32
     ensures { λ r. ⌜ r ≡ getD (s .lost) (g .0) 0 ⌝ }
 {
-    let i = g.0 as usize;
-    if 4 <= i {
-        return 0;
-    }
-    s.lost[i]
+    let lost = s.lost;
+    logging::lost_of(lost, g)
 }
 
 // The number of bytes that a request of this type has in its readable part, to be asked before a buffer is gathered.
@@ -32,7 +29,7 @@ pub extern "C" fn viommu_lost(s: State, g: Guest) -> u32
 pub extern "C" fn viommu_readable_length(kind: u8) -> usize
     ensures { λ r. ⌜ r ≡ readableLength kind ⌝ }
 {
-    wire::lengths::readable_length(kind)
+    layouts::lengths::readable_length(kind)
 }
 
 // The number of bytes that a request of this type has in its writable part.
@@ -40,5 +37,5 @@ pub extern "C" fn viommu_readable_length(kind: u8) -> usize
 pub extern "C" fn viommu_writable_length(kind: u8) -> usize
     ensures { λ r. ⌜ r ≡ writableLength kind ⌝ }
 {
-    wire::lengths::writable_length(kind)
+    layouts::lengths::writable_length(kind)
 }

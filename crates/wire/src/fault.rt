@@ -4,46 +4,40 @@ use rules::Fault;
 ghost use mathlib.Core.Path.{_≡_};
 ghost use mathlib.Core.Bool.{cond};
 ghost use mathlib.Core.List.{_++_};
+ghost use Prim.Native.Nat.{_+_, _≤_};
 ghost use lib.Dec.{leb};
-ghost use lib.ListN.{length, drop};
+ghost use lib.ListN.{length, take, drop};
+ghost use Rattle.laws.specs.Bytes.{leBytes};
 ghost use Rattle.rules.specs.Access.{faultBytes};
 
 // Each byte of a fault record that no field takes.
 const RESERVED: u8 = 0;
 
+// The n bytes from byte k on become the lowest n of x, the lowest first.
+fn put_number(bytes: &mut [u8], k: usize, n: usize, x: u64)
+    requires { ⌜ k + n ≤ length (now bytes) ⌝ }
+    ensures { λ _. ⌜ now (bytes .exit) ≡ take k (now (bytes .entry)) ++ (leBytes n x ++ drop (k + n) (now (bytes .entry))) ⌝ }
+{
+    let mut rest = x;
+    for i in 0..n {
+        bytes[k + i] = (rest % 256) as u8;
+        rest = rest / 256;
+    }
+}
+
 // The 24 bytes of a fault record.
 fn fault_bytes(f: Fault) -> [u8; 24]
     ensures { λ r. ⌜ r ≡ faultBytes f ⌝ }
 {
-    let flags = f.flags;
-    let endpoint = f.endpoint.0;
+    let flags = f.flags as u64;
+    let endpoint = f.endpoint.0 as u64;
     let address = f.address;
-    [
-        f.reason,
-        RESERVED,
-        RESERVED,
-        RESERVED,
-        (flags % 256) as u8,
-        (flags / 256 % 256) as u8,
-        (flags / 65536 % 256) as u8,
-        (flags / 16777216 % 256) as u8,
-        (endpoint % 256) as u8,
-        (endpoint / 256 % 256) as u8,
-        (endpoint / 65536 % 256) as u8,
-        (endpoint / 16777216 % 256) as u8,
-        RESERVED,
-        RESERVED,
-        RESERVED,
-        RESERVED,
-        (address % 256) as u8,
-        (address / 256 % 256) as u8,
-        (address / 65536 % 256) as u8,
-        (address / 16777216 % 256) as u8,
-        (address / 4294967296 % 256) as u8,
-        (address / 1099511627776 % 256) as u8,
-        (address / 281474976710656 % 256) as u8,
-        (address / 72057594037927936 % 256) as u8,
-    ]
+    let mut bytes = [RESERVED; 24];
+    bytes[0] = f.reason;
+    put_number(&mut bytes, 4, 4, flags);
+    put_number(&mut bytes, 8, 4, endpoint);
+    put_number(&mut bytes, 16, 8, address);
+    bytes
 }
 
 // The first 24 bytes of out become the record of f; an out of fewer bytes stays.

@@ -14,7 +14,7 @@ fn wide(x: u8) -> u64
 }
 
 // The number in the n bytes that start at byte k.
-pub(crate) fn number_at(bytes: &[u8], k: usize, n: usize) -> u64
+fn number_at(bytes: &[u8], k: usize, n: usize) -> u64
     requires { ⌜ (k + n ≤ length (now bytes)) × (n ≤ 8) ⌝ }
     ensures { λ r. ⌜ (r ≡ field k n (now (bytes .entry))) × (r < 256 ^ n) ⌝ }
 {
@@ -25,14 +25,6 @@ pub(crate) fn number_at(bytes: &[u8], k: usize, n: usize) -> u64
         x = 256 * x + wide(bytes[k + left]);
     }
     x
-}
-
-// The 32-bit number in the four bytes that start at byte k.
-pub(crate) fn u32_at(bytes: &[u8], k: usize) -> u32
-    requires { ⌜ k + 4 ≤ length (now bytes) ⌝ }
-    ensures { λ r. ⌜ r ≡ field k 4 (now (bytes .entry)) ⌝ }
-{
-    number_at(bytes, k, 4) as u32
 }
 
 // The number in the n bytes that start at byte k; 0 where they are not all there, or are more than eight.

@@ -5,9 +5,10 @@ use native.Mathlib.Omega.{arith}
 use borrow.Author.Needs.{needs}
 use lib.ListN.{length, drop, length-drop}
 use lib.Seq.{take-all}
-use Rattle.journal.specs.Turns.{turn}
-use Rattle.journal.specs.Telling.{Tells}
-use Rattle.journal.proofs.Reading.{turn-reads}
+use Rattle.playing.specs.Turns.{turn}
+use Rattle.playing.specs.Telling.{Tells}
+use Rattle.turns.proofs.Reading.{turn-reads}
+use Rattle.playing.proofs.Telling.{told-in-room}
 use Rattle.journal.proofs.Playing.{Went, begins, fits-on, goes-on, stops, fills}
 use Rattle.journal.proofs.play.play.Statement.{statement}
 use Rattle.journal.proofs.play.play.Tie as tie
@@ -33,9 +34,6 @@ part-turn-start c = let w = c .before .before .loop .inv .0 in omega (arith, w .
 part-turn-end : tie.Need-part-turn-end Inv-loop μ-loop
 part-turn-end c = search needs
 
-turn-requires : tie.Need-turn-requires Inv-loop μ-loop
-turn-requires c κs = let l = c .before .before .before .before in let w = l .loop .inv .0 in omega (arith, w .same, w .fits)
-
 -- what the turn in the loop's body tells of the rest of the part
 told : (y : tie.After-turn Inv-loop μ-loop) →
     let l = y .before .before .before .before .before in
@@ -44,7 +42,9 @@ told : (y : tie.After-turn Inv-loop μ-loop) →
 told y =
     let l = y .before .before .before .before .before in
     let s = l .before .before .before .before .args .s .now in
-    rw (take-all (length s - l .loop .read) (drop (l .loop .read) s) (omega (arith, length-drop (l .loop .read) s))) at (y .turn .ensures)
+    let w = l .loop .inv .0 in
+    told-in-room (y .turn .result) (l .loop .player) (l .loop .t) (drop (l .loop .read) s) (y .turn .last .1 .0) (l .loop .out) (y .turn .last .1 .1 .1 .0) (l .loop .printed) (omega (arith, w .same, w .fits))
+    (rw (take-all (length s - l .loop .read) (drop (l .loop .read) s) (omega (arith, length-drop (l .loop .read) s))) at (y .turn .ensures))
 
 advanced-requires : tie.Need-advanced-requires Inv-loop μ-loop
 advanced-requires c κs =
@@ -138,7 +138,7 @@ play-spec =
     sub-turn
     part-turn-start
     part-turn-end
-    turn-requires
+    (λ c κs. tt)
     advanced-requires
     advanced-requires-2
     same-length

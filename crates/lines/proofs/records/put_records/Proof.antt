@@ -1,13 +1,15 @@
 -- The loop's invariant: what is left to put, put at next, gives what is asked of the whole.
 use Prim.Native.Nat.{_+_, _-_, _*_, _≤_}
 use mathlib.Core.Path.{_≡_, refl, sym, ap, _∙_}
-use mathlib.Core.List.{_++_}
+use mathlib.Core.List.{[], _∷_, _++_}
 use native.Mathlib.Omega.{arith}
 use borrow.Author.Needs.{needs}
-use lib.ListN.{length, drop, length-append, length-take, length-drop}
+use lib.ListN.{length, take, drop, length-append, length-take, length-drop}
 use Rattle.lines.specs.Lines.{recordLines}
-use Rattle.lines.specs.Placing.{placed}
-use Rattle.lines.proofs.Places.{length-placed, placed-then, placed-none}
+use Rattle.printing.specs.Text.{hexBytes}
+use Rattle.printing.specs.Plain.{newline}
+use Rattle.printing.specs.Placing.{placed}
+use Rattle.printing.proofs.Places.{Put, placed-room, length-placed, placed-then, placed-none}
 use Rattle.lines.proofs.Wording.{records-next}
 use Rattle.lines.proofs.records.put_records.Statement.{statement}
 use Rattle.lines.proofs.records.put_records.Tie as tie
@@ -38,13 +40,16 @@ loop-again c =
     let i = s .loop .i in
     let line = r .record-line .result in
     let left = recordLines (a .count - (i + 1)) (drop (24 * (i + 1)) (a .buffer .now)) in
+    let q : Put (s .loop .next) line (s .loop .out) (p .put-bytes .result) (p .put-bytes .last .0) = placed-room (length line) (s .loop .next) line (s .loop .out) (omega arith) (p .put-bytes .ensures) in
     let g : 24 * i + 24 - 24 * i ≡ 24 = omega arith in
-    let n : recordLines (a .count - i) (drop (24 * i) (a .buffer .now)) ≡ line ++ left = rw (r .record-line .ensures, g) (records-next (a .count) i (a .buffer .now) (omega arith)) in (
+    let same : line ≡ hexBytes (take 24 (drop (24 * i) (a .buffer .now))) ++ (newline ∷ []) =
+    r .record-line .ensures ∙ ap (λ m. hexBytes (take m (drop (24 * i) (a .buffer .now))) ++ (newline ∷ [])) g in
+    let n : recordLines (a .count - i) (drop (24 * i) (a .buffer .now)) ≡ line ++ left = rw same (records-next (a .count) i (a .buffer .now) (omega arith)) in (
       omega arith,
-      rw (p .put-bytes .ensures .1) (length-placed (s .loop .next) line (s .loop .out) (omega arith) ∙ s .loop .inv .1),
-      omega arith,
-      omega (arith, simp length-append at (ap length n)),
-      rw (p .put-bytes .ensures .0, p .put-bytes .ensures .1) (placed-then (s .loop .next) line (s .loop .out) (omega arith) left ∙ rw (← n) (s .loop .inv .4)),
+      rw (q .1) (length-placed (s .loop .next) line (s .loop .out) (omega arith) ∙ s .loop .inv .1),
+      omega (arith, q .0),
+      omega (arith, q .0, simp length-append at (ap length n)),
+      rw (q .0, q .1) (placed-then (s .loop .next) line (s .loop .out) (omega arith) left ∙ rw (← n) (s .loop .inv .4)),
     )
 
 returns : tie.Need-returns Inv-loop μ-loop

@@ -8,7 +8,7 @@ use lib.ListN.{getD}
 use Rattle.laws.specs.Lists.{below}
 use Rattle.rules.specs.Sound.{attachmentGood}
 use Rattle.soundness.specs.Pieces.{rangeAlone}
-use Rattle.soundness.proofs.Loops.{below-none, below-next}
+use Rattle.laws.proofs.Turns.{below-none, below-next}
 use Rattle.soundness.proofs.attachments.attachments_good.Statement.{statement}
 use Rattle.soundness.proofs.attachments.attachments_good.Tie as tie
 

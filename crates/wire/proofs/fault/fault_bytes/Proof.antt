@@ -1,5 +1,5 @@
--- Byte k of a number is asked by one division, by 256 ^ k, and defined by k divisions by 256.
-use native.Mathlib.Nat.{div-div-eq-div-mul}
+-- The three numbers lie at their places, and all else is zero.
+use mathlib.Core.Path.{_∙_}
 use borrow.Author.Needs.{needs}
 use Rattle.rules.specs.Access.{faultBytes}
 use Rattle.wire.proofs.fault.fault_bytes.Statement.{statement}
@@ -7,26 +7,14 @@ use Rattle.wire.proofs.fault.fault_bytes.Tie as tie
 
 returns : tie.Need-returns
 unfolding faultBytes
-returns c = simp div-div-eq-div-mul
+returns c =
+    let s = c .before .before .before .before in
+    c .before .put-number3 .ensures ∙ rw (s .put-number2 .ensures, s .before .before .before .put-number .ensures)
 
 pub fault-bytes-spec : {M : Type 1} → statement M
 fault-bytes-spec =
     tie.close
     (tie.spec
-    (λ c. search needs)
-    (λ c. search needs)
-    (λ c. search needs)
-    (λ c. search needs)
-    (λ c. search needs)
-    (λ c. search needs)
-    (λ c. search needs)
-    (λ c. search needs)
-    (λ c. search needs)
-    (λ c. search needs)
-    (λ c. search needs)
-    (λ c. search needs)
-    (λ c. search needs)
-    (λ c. search needs)
-    (λ c. search needs)
-    (λ c. search needs)
+    (λ c. search needs) (λ c. search needs) (λ c. search needs)
+    (λ c. search needs) (λ c κs. search needs) (λ c. search needs) (λ c κs. search needs) (λ c. search needs) (λ c κs. search needs)
     returns)

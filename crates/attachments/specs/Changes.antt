@@ -1,0 +1,9 @@
+-- What an endpoint's attachment changes in the state's arrays.
+use Prim.Native.Nat.{ℕ}
+use lib.ListN.{set}
+use Rattle.rules.specs.declared.State.{State}
+use Rattle.state.specs.Fields.{withAttachments}
+
+-- the endpoint at place i gets this flag and domain
+unfoldable pub attachedAt : State → ℕ → ℕ → ℕ → State
+attachedAt s i flag d = withAttachments (set (s .attached) i flag) (set (s .domains) i d) s

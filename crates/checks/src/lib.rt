@@ -1,0 +1,98 @@
+// The test that comes before every call.
+ghost use mathlib.Core.Path.{_≡_};
+ghost use Prim.Native.Nat.{ℕ, _≤_};
+ghost use Rattle.rules.specs.Configuration.{last};
+ghost use Rattle.rules.specs.Sound.{sound};
+ghost use Rattle.sound_logs.specs.Faults.{stateWith};
+ghost use Rattle.soundness.specs.Pieces.{deviceOf};
+ghost use Rattle.effects.specs.Flat.{device};
+ghost use Rattle.effects.specs.Checked.{Shaped};
+use rules::Settings;
+use rules::State;
+
+// Whether state and table are sound; and, for whoever calls, what the types of the state's arrays fix.
+pub fn is_sound(s: State, t: &[u64]) -> bool
+    ensures { λ r. ⌜ (r ≡ sound (device s (now (t .entry)))) × Shaped s × ((i : ℕ) → last (s .settings) i ≤ 18446744073709551615) ⌝ }
+{
+    let settings = s.settings;
+    soundness::is_sound(
+        settings,
+        s.listed,
+        s.live,
+        &s.endpoints,
+        &s.owners,
+        &s.attached,
+        &s.domains,
+        &s.logged,
+        &s.lost,
+        &s.reasons,
+        &s.flags,
+        &s.sources,
+        &s.addresses,
+        t,
+    )
+}
+
+// Nothing. An array that is lent here as a slice has its length told to the proof of the lender.
+fn measure<'a>(
+    endpoints: &'a [u32],
+    owners: &'a [u8],
+    attached: &'a [u8],
+    domains: &'a [u32],
+    logged: &'a [usize],
+    lost: &'a [u32],
+    reasons: &'a [u8],
+    flags: &'a [u32],
+    sources: &'a [u32],
+    addresses: &'a [u64],
+) {}
+
+// Whether the state of these pieces and the table are sound; and, for whoever calls, what the types of the arrays fix.
+// The same with the arrays lent, for a caller that keeps its state.
+pub fn lent_sound<'a>(
+    settings: Settings,
+    listed: usize,
+    live: usize,
+    endpoints: &'a [u32; 32],
+    owners: &'a [u8; 32],
+    attached: &'a [u8; 32],
+    domains: &'a [u32; 32],
+    logged: &'a [usize; 4],
+    lost: &'a [u32; 4],
+    reasons: &'a [u8; 64],
+    flags: &'a [u32; 64],
+    sources: &'a [u32; 64],
+    addresses: &'a [u64; 64],
+    t: &'a [u64],
+) -> bool
+    ensures { λ r. ⌜ (r ≡ sound (deviceOf settings listed live (now (endpoints .entry)) (now (owners .entry)) (now (attached .entry)) (now (domains .entry)) (now (logged .entry)) (now (lost .entry)) (now (reasons .entry)) (now (flags .entry)) (now (sources .entry)) (now (addresses .entry)) (now (t .entry)))) × Shaped (stateWith settings listed live (now (endpoints .entry)) (now (owners .entry)) (now (attached .entry)) (now (domains .entry)) (now (logged .entry)) (now (lost .entry)) (now (reasons .entry)) (now (flags .entry)) (now (sources .entry)) (now (addresses .entry))) × ((i : ℕ) → last settings i ≤ 18446744073709551615) ⌝ }
+{
+    measure(
+        endpoints,
+        owners,
+        attached,
+        domains,
+        logged,
+        lost,
+        reasons,
+        flags,
+        sources,
+        addresses,
+    );
+    soundness::is_sound(
+        settings,
+        listed,
+        live,
+        endpoints,
+        owners,
+        attached,
+        domains,
+        logged,
+        lost,
+        reasons,
+        flags,
+        sources,
+        addresses,
+        t,
+    )
+}

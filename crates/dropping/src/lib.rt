@@ -1,0 +1,27 @@
+// A guest's oldest faults taken out of its log.
+mod shifting;
+
+ghost use mathlib.Core.Path.{_≡_};
+ghost use Rattle.dropping.specs.Changes.{faultsDropped};
+use rules::Guest;
+use rules::State;
+use shifting::shift_faults;
+use state::least;
+
+// The state with a guest's k oldest faults gone; all of them where it has no more than k.
+pub fn drop_faults(s: State, g: Guest, k: usize) -> State
+    ensures { λ r. ⌜ r ≡ faultsDropped s (g .0) k ⌝ }
+{
+    let guest = g.0 as usize;
+    if guest >= 4 {
+        return s;
+    }
+    if k == 0 {
+        // Nothing goes.
+        return s;
+    }
+    let n = s.logged[guest];
+    let mut next = shift_faults(s, guest, least(k, 16));
+    next.logged[guest] = n - least(n, k);
+    next
+}

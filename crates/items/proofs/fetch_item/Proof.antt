@@ -1,0 +1,24 @@
+use native.Mathlib.Omega.{arith}
+use borrow.Author.Needs.{needs}
+use borrow.Author.Tests.{le-leb, lt-leb}
+use lib.ListN.{getD}
+use Rattle.items.specs.Items.{taken}
+use Rattle.items.proofs.fetch_item.Statement.{statement}
+use Rattle.items.proofs.fetch_item.Tie as tie
+
+too-many : tie.Need-returns
+unfolding taken
+too-many c =
+    let s = c .before .before in
+    rw (s .pre .1, lt-leb (getD (s .args .s .now) 2 0) 16 (omega arith))
+
+enough : tie.Need-returns-2
+unfolding taken
+enough c =
+    let s = c .before .before .before .before in
+    rw (s .pre .1, le-leb (getD (s .args .s .now) 2 0) 16 (omega arith))
+
+pub fetch-item-spec : {M : Type 1} → statement M
+fetch-item-spec =
+    tie.close
+    (tie.spec (λ c. search needs) too-many (λ c. search needs) (λ c. search needs) (λ c. search needs) enough)

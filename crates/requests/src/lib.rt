@@ -1,0 +1,88 @@
+// Requests, refusals in order and then the handler of the type; and a guest's reset.
+pub mod resetting;
+
+ghost use mathlib.Core.Path.{_≡_};
+ghost use mathlib.Core.Bool.{true};
+ghost use Prim.Native.Nat.{_<_};
+ghost use lib.Dec.{ltb};
+ghost use Rattle.rules.specs.Sound.{sound};
+ghost use Rattle.rules.specs.Device as rules;
+ghost use Rattle.effects.specs.Flat.{device};
+ghost use Rattle.effects.specs.Outcome.{outcome};
+ghost use Rattle.effects.specs.Serve.{handled};
+ghost use Rattle.effects.specs.Checked.{Shaped, replied};
+use effects::Given;
+use effects::Handled;
+use endpoints::moves;
+use layouts::request::Request;
+use rules::Answer;
+use rules::Guest;
+use rules::Mapping;
+use rules::State;
+
+// The handler of a request's type.
+fn handle(s: State, t: &mut [u64], g: Guest, q: Request) -> Handled
+    requires { ⌜ (0 < s .settings .mask) × (g .0 < 4) × (s .live < 18446744073709551615) ⌝ }
+    ensures { λ r. ⌜ outcome r (now (t .exit)) ≡ handled (device s (now (t .entry))) g q ⌝ }
+{
+    match q {
+        Request::Refused(_) => Handled {
+            status: 0,
+            state: s,
+        },
+        Request::Attach(d, e, reserved) => endpoints::attach(s, t, g, d, e, reserved),
+        Request::Detach(d, e, reserved) => endpoints::detach(s, t, g, d, e, reserved),
+        Request::Map(d, f) => {
+            let r = Mapping {
+                key: moves::key_of(g, d),
+                start: f.start,
+                end: f.end,
+                phys: f.phys,
+                flags: f.flags,
+            };
+            mappings::map(s, t, g, d, r)
+        }
+        Request::Unmap(d, f) => mappings::unmap(s, t, g, d, f.start, f.end, f.reserved),
+    }
+}
+
+// A request on sound state and table.
+fn serve(s: State, t: &mut [u64], g: Guest, readable: &[u8], writable: &mut [u8]) -> Given
+    requires { ⌜ (sound (device s (now t)) ≡ true) × Shaped s × (ltb (g .0) (s .settings .guests) ≡ true) ⌝ }
+    ensures { λ r. ⌜ replied r (now (writable .exit)) (now (t .exit)) ≡ rules.step (device s (now (t .entry))) (rules.request g (now (readable .entry)) (now (writable .entry))) ⌝ }
+{
+    let q = layouts::request::parse(readable, writable.len());
+    if let Request::Refused(a) = q {
+        return Given {
+            answer: a,
+            state: s,
+        };
+    }
+    let h = handle(s, t, g, q);
+    wire::status::put_status(writable, h.status);
+    let next = h.state;
+    Given {
+        answer: Answer::Served,
+        state: next,
+    }
+}
+
+// A guest's request, in a readable and a writable part of any lengths.
+pub fn request(s: State, t: &mut [u64], g: Guest, readable: &[u8], writable: &mut [u8]) -> Given
+    ensures { λ r. ⌜ replied r (now (writable .exit)) (now (t .exit)) ≡ rules.step (device s (now (t .entry))) (rules.request g (now (readable .entry)) (now (writable .entry))) ⌝ }
+{
+    let settings = s.settings;
+    if settings.guests <= (g.0 as usize) {
+        return Given {
+            answer: Answer::NoSuchGuest,
+            state: s,
+        };
+    }
+    if !checks::is_sound(s, t) {
+        return Given {
+            answer: Answer::Unsound,
+            state: s,
+        };
+    }
+    serve(s, t, g, readable, writable)
+}

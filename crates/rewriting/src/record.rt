@@ -1,0 +1,30 @@
+// One record written.
+ghost use mathlib.Core.Path.{_≡_};
+ghost use mathlib.Core.List.{_++_};
+ghost use Prim.Native.Nat.{_+_, _<_, _≤_};
+ghost use lib.ListN.{length, set};
+ghost use Rattle.rules.specs.Table.{records, words};
+ghost use Rattle.table.specs.Records.{spare};
+ghost use Rattle.rewriting.specs.Rewritten.{stored};
+use rules::Mapping;
+use table::RECORD_WORDS;
+
+// The words with r in the five from at on.
+fn store(t: &mut [u64], at: usize, r: Mapping)
+    requires { ⌜ at + 5 ≤ length (now t) ⌝ }
+    ensures { λ _. ⌜ now (t .exit) ≡ stored (now (t .entry)) at r ⌝ }
+{
+    t[at] = r.key;
+    t[at + 1] = r.start;
+    t[at + 2] = r.end;
+    t[at + 3] = r.phys;
+    t[at + 4] = r.flags;
+}
+
+// The table with r as record i.
+pub(crate) fn write(t: &mut [u64], i: usize, r: Mapping)
+    requires { ⌜ i < length (records (now t)) ⌝ }
+    ensures { λ _. ⌜ now (t .exit) ≡ words (set (records (now (t .entry))) i r) ++ spare (now (t .entry)) ⌝ }
+{
+    store(t, RECORD_WORDS * i, r)
+}

@@ -1,0 +1,53 @@
+-- The state that the pieces of one make up, and what the test of the fault logs looks at.
+use Prim.Native.Nat.{ℕ}
+use mathlib.Core.Bool.{cond}
+use mathlib.Core.List.{List, []}
+use lib.Dec.{ltb}
+use lib.ListN.{getD}
+use Rattle.rules.specs.declared.Settings.{Settings}
+use Rattle.rules.specs.declared.State.{State}
+use Rattle.rules.specs.State.{zeroState}
+use Rattle.rules.specs.Guests.{Own}
+use Rattle.rules.specs.Sound.{guest}
+
+-- the state of these pieces
+abbrev pub stateWith : Settings → ℕ → ℕ → List ℕ → List ℕ → List ℕ → List ℕ → List ℕ → List ℕ → List ℕ → List ℕ → List ℕ → List ℕ → State
+stateWith settings listed live endpoints owners attached domains logged lost reasons flags sources addresses =
+    record {
+      settings = settings;
+      listed = listed;
+      endpoints = endpoints;
+      owners = owners;
+      attached = attached;
+      domains = domains;
+      live = live;
+      logged = logged;
+      lost = lost;
+      reasons = reasons;
+      flags = flags;
+      sources = sources;
+      addresses = addresses;
+    }
+
+-- a state of endpoints and faults alone: what the test of the fault places looks at
+abbrev pub faultsAlone : ℕ → List ℕ → List ℕ → List ℕ → List ℕ → List ℕ → List ℕ → List ℕ → State
+faultsAlone listed endpoints owners logged reasons flags sources addresses =
+    stateWith (zeroState .settings) listed 0 endpoints owners [] [] logged [] reasons flags sources addresses
+
+-- a guest's endpoints alone: what the test of a fault looks at
+abbrev pub endpointsAlone : List ℕ → Own
+endpointsAlone es =
+    record {
+      guest = guest 0;
+      share = 0;
+      first = 0;
+      last = 0;
+      mask = 0;
+      input = record { start = 0; end = 0 };
+      domains = record { start = 0; end = 0 };
+      endpoints = es;
+    }
+
+-- the owner of the endpoint at place j among the first n; 4, which is no guest's number, past them
+unfoldable pub ownerAmong : ℕ → List ℕ → ℕ → ℕ
+ownerAmong n owners j = cond (ltb j n) (getD owners j 0) 4

@@ -1,0 +1,158 @@
+// The test of the guests' fault logs.
+mod named;
+
+ghost use mathlib.Core.Path.{_≡_};
+ghost use mathlib.Core.Bool.{cond, _&&_};
+ghost use Prim.Native.Nat.{_≤_};
+ghost use lib.Dec.{leb};
+ghost use lib.ListN.{length, getD};
+ghost use Rattle.laws.specs.Lists.{below, pickBy};
+ghost use Rattle.rules.specs.Sizes.{maxGuests, maxEndpoints, maxFaults, faultPlaces, maxLost};
+ghost use Rattle.rules.specs.State.{configOf};
+ghost use Rattle.rules.specs.Sound.{faultGood, faultZero, faultPlaceGood};
+ghost use Rattle.sound_logs.specs.Faults.{endpointsAlone, faultsAlone};
+use named::hints_of;
+use named::is_named;
+use named::owners_among;
+use rules::Endpoint;
+use rules::Fault;
+use zeros::zero_u8;
+use zeros::zero_u32;
+use zeros::zero_u64;
+use zeros::zero_usize;
+
+// The places for a guest's faults.
+const MAX_FAULTS: usize = 16;
+
+// Whether the log counts of the first n guests are at most 16.
+fn counts_within(n: usize, logged: &[usize; 4]) -> bool
+    requires { ⌜ n ≤ 4 ⌝ }
+    ensures { λ r. ⌜ r ≡ below n (λ g. leb (getD (now (logged .entry)) g 0) maxFaults) ⌝ }
+{
+    let mut ok = true;
+    for g in 0..n {
+        let count = logged[g];
+        ok = (count <= MAX_FAULTS) & ok;
+    }
+    ok
+}
+
+// Whether their lost counts are at most 65,535.
+fn lost_within(n: usize, lost: &[u32; 4]) -> bool
+    requires { ⌜ n ≤ 4 ⌝ }
+    ensures { λ r. ⌜ r ≡ below n (λ g. leb (getD (now (lost .entry)) g 0) maxLost) ⌝ }
+{
+    let mut ok = true;
+    for g in 0..n {
+        let count = lost[g];
+        ok = (count <= 65535) & ok;
+    }
+    ok
+}
+
+// Whether the log counts of the first n guests are at most 16 and their lost counts at most 65,535; false where there are
+// no places for n guests.
+pub fn counts_good<'a>(n: usize, logged: &'a [usize; 4], lost: &'a [u32; 4]) -> bool
+    ensures { λ r. ⌜ r ≡ (leb n maxGuests && (below n (λ g. leb (getD (now (logged .entry)) g 0) maxFaults) && below n (λ g. leb (getD (now (lost .entry)) g 0) maxLost))) ⌝ }
+{
+    if 4 < n {
+        return false;
+    }
+    let held = counts_within(n, logged);
+    let dropped = lost_within(n, lost);
+    held & dropped
+}
+
+// Whether f, at a place that is in use or not, is a fault of guest g or zero.
+fn fault_good<'a>(
+    endpoints: &'a [u32],
+    owners: &'a [u32],
+    hints: &'a [u8; 64],
+    g: u32,
+    used: bool,
+    f: Fault,
+) -> bool
+    requires { ⌜ (length (now owners) ≡ maxEndpoints) × (length (now endpoints) ≡ maxEndpoints) ⌝ }
+    ensures { λ r. ⌜ r ≡ cond used (faultGood (endpointsAlone (pickBy g (now (owners .entry)) (now (endpoints .entry)))) f) (faultZero f) ⌝ }
+{
+    if used {
+        let e = f.endpoint;
+        return ((f.reason == 1) | (f.reason == 2))
+            & (((f.flags == 257) | (f.flags == 258)) & is_named(endpoints, owners, hints, g, e));
+    }
+    ((f.reason == 0) & (f.flags == 0)) & ((f.endpoint.0 == 0) & (f.address == 0))
+}
+
+// Whether each place for a fault is good, one by one.
+fn places_good<'a>(
+    n: usize,
+    endpoints: &'a [u32],
+    owners: &'a [u8],
+    logged: &'a [usize; 4],
+    reasons: &'a [u8; 64],
+    flags: &'a [u32; 64],
+    sources: &'a [u32; 64],
+    addresses: &'a [u64; 64],
+) -> bool
+    requires { ⌜ (n ≤ maxEndpoints) × (length (now owners) ≡ maxEndpoints) × (length (now endpoints) ≡ maxEndpoints) ⌝ }
+    ensures { λ r. ⌜ r ≡ below faultPlaces (faultPlaceGood (configOf (faultsAlone n (now (endpoints .entry)) (now (owners .entry)) (now (logged .entry)) (now (reasons .entry)) (now (flags .entry)) (now (sources .entry)) (now (addresses .entry)))) (faultsAlone n (now (endpoints .entry)) (now (owners .entry)) (now (logged .entry)) (now (reasons .entry)) (now (flags .entry)) (now (sources .entry)) (now (addresses .entry)))) ⌝ }
+{
+    let listed = owners_among(n, owners);
+    let hints = hints_of(endpoints);
+    let mut ok = true;
+    for i in 0..64 {
+        let g = i / MAX_FAULTS;
+        let count = logged[g];
+        let e = sources[i];
+        let f = Fault {
+            reason: reasons[i],
+            flags: flags[i],
+            endpoint: Endpoint(e),
+            address: addresses[i],
+        };
+        ok = fault_good(
+            endpoints,
+            &listed,
+            &hints,
+            g as u32,
+            i % MAX_FAULTS < count,
+            f,
+        )
+            & ok;
+    }
+    ok
+}
+
+// Whether each place for a fault is good: in use, with a fault of its guest's, or zero; false where there are no places for n
+// endpoints.
+pub fn faults_good<'a>(
+    n: usize,
+    endpoints: &'a [u32; 32],
+    owners: &'a [u8; 32],
+    logged: &'a [usize; 4],
+    reasons: &'a [u8; 64],
+    flags: &'a [u32; 64],
+    sources: &'a [u32; 64],
+    addresses: &'a [u64; 64],
+) -> bool
+    ensures { λ r. ⌜ r ≡ (leb n maxEndpoints && below faultPlaces (faultPlaceGood (configOf (faultsAlone n (now (endpoints .entry)) (now (owners .entry)) (now (logged .entry)) (now (reasons .entry)) (now (flags .entry)) (now (sources .entry)) (now (addresses .entry)))) (faultsAlone n (now (endpoints .entry)) (now (owners .entry)) (now (logged .entry)) (now (reasons .entry)) (now (flags .entry)) (now (sources .entry)) (now (addresses .entry))))) ⌝ }
+{
+    if 32 < n {
+        return false;
+    }
+    if zero_usize(logged, 0) {
+        // No log has a fault.
+        return (zero_u8(reasons, 0) & zero_u32(flags, 0))
+            & (zero_u32(sources, 0) & zero_u64(addresses, 0));
+    }
+    places_good(
+        n,
+        endpoints,
+        owners,
+        logged,
+        reasons,
+        flags,
+        sources,
+        addresses,
+    )
+}

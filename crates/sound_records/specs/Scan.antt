@@ -1,0 +1,69 @@
+-- One pass over the live records, each beside the one before it.
+use Prim.Native.Nat.{ℕ, suc}
+use mathlib.Core.Bool.{Bool, true, false, cond, not, _&&_, _||_}
+use mathlib.Core.List.{List, [], _∷_}
+use lib.Dec.{leb, ltb, eqb}
+use lib.ListN.{length, getD, take}
+use Rattle.laws.specs.Lists.{below, firstFailing, pickBy, tab}
+use Rattle.rules.specs.declared.InputRange.{InputRange}
+use Rattle.rules.specs.declared.Settings.{Settings}
+use Rattle.rules.specs.declared.Mapping.{Mapping}
+use Rattle.rules.specs.Sizes.{maxGuests, maxEndpoints}
+use Rattle.rules.specs.Configuration.{share, first, last}
+use Rattle.rules.specs.State.{Attachment, attachment}
+use Rattle.rules.specs.Table.{records, guestOf, domainOf}
+use Rattle.rules.specs.Guests.{Own, recordsOf}
+use Rattle.rules.specs.Handlers.{exists, formSteps}
+use Rattle.rules.specs.Sound.{guest, passes}
+
+-- a guest's limits alone: what steps 2 to 6 of MAP look at
+abbrev pub limits : ℕ → InputRange → ℕ → ℕ → Own
+limits mask input first last =
+    record { guest = guest 0; share = 0; first = first; last = last; mask = mask; input = input; domains = record { start = 0; end = 0 }; endpoints = [] }
+
+-- the attachments of guest g, among the first n endpoints
+abbrev pub attachmentsOf : ℕ → ℕ → List ℕ → List ℕ → List ℕ → List Attachment
+attachmentsOf g n owners attached domains = pickBy g (take n owners) (tab n (λ i. attachment (getD attached i 0) (getD domains i 0)))
+
+-- s may stand right after r: a higher first word, or the same and addresses past those of r
+unfoldable pub follows : Mapping → Mapping → Bool
+follows r s = ltb (r .key) (s .key) || (eqb (r .key) (s .key) && ltb (r .end) (s .start))
+
+-- steps 2 to 6 of MAP pass, within these limits
+unfoldable pub formGood : ℕ → InputRange → ℕ → ℕ → Mapping → Bool
+formGood mask input first last r = passes (firstFailing (formSteps (limits mask input first last) r))
+
+-- the record's guest is one, and steps 2 to 6 of MAP pass for it
+unfoldable pub ownGood : Settings → Mapping → Bool
+ownGood s r = ltb (guestOf r) (s .guests) && formGood (s .mask) (s .input) (first s (guestOf r)) (last s (guestOf r)) r
+
+-- step 1 of MAP passes: the record's domain exists for its guest
+unfoldable pub domainGood : ℕ → List ℕ → List ℕ → List ℕ → Mapping → Bool
+domainGood n owners attached domains r = exists (domainOf r) (attachmentsOf (guestOf r) n owners attached domains)
+
+-- each record's own tests, its place after the one before, p, and its domain where that is not the domain of p;
+-- the first record has none before it
+abbrev pub scan : (Mapping → Bool) → (Mapping → Bool) → Bool → Mapping → List Mapping → Bool
+scan form domain start p [] = true
+scan form domain start p (r ∷ l) =
+    (form r && ((start || follows p r) && ((not start && eqb (p .key) (r .key)) || domain r))) && scan form domain false r l
+
+-- how many records go on with the domain of a key after one that ends at `end`: each of that key, past the end of the one
+-- before, and good in itself
+abbrev pub run : (Mapping → Bool) → ℕ → ℕ → List Mapping → ℕ
+run form key end [] = 0
+run form key end (r ∷ l) = cond (eqb (r .key) key && (ltb end (r .start) && form r)) (suc (run form key (r .end) l)) 0
+
+-- the scan where the next record is the first of a domain, which comes after that of key, or is the first of all
+abbrev pub opening : (Mapping → Bool) → (Mapping → Bool) → Bool → ℕ → List Mapping → Bool
+opening form domain start key [] = true
+opening form domain start key (r ∷ l) = (form r && ((start || ltb key (r .key)) && domain r)) && scan form domain false r l
+
+-- "no guest holds more than its share"
+unfoldable pub sharesKept : Settings → List Mapping → Bool
+sharesKept s l = below (s .guests) (λ g. leb (length (recordsOf (guest g) l)) (share s g))
+
+-- guests, endpoints and live records are as many as there are places for, and the mask has a lowest set bit
+abbrev pub placesTests : Settings → ℕ → ℕ → List ℕ → List Bool
+placesTests s listed live table =
+    leb (s .guests) maxGuests ∷ ltb 0 (s .mask) ∷ leb listed maxEndpoints ∷ leb live (length (records table)) ∷ []

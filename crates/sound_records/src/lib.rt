@@ -1,0 +1,93 @@
+// The test that the live records are in order and apart, that each would pass steps 1 to 6 of MAP, and that no guest holds
+// more than its share: one pass, domain by domain.
+mod domains;
+mod form;
+mod runs;
+mod shares;
+
+ghost use mathlib.Core.Path.{_≡_};
+ghost use mathlib.Core.Bool.{true, _&&_};
+ghost use Prim.Native.Nat.{_≤_, _<_};
+ghost use lib.Dec.{leb, ltb};
+ghost use lib.ListN.{length, take};
+ghost use Rattle.laws.specs.Lists.{every?};
+ghost use Rattle.rules.specs.Table.{records};
+ghost use Rattle.table.specs.Records.{noMapping};
+ghost use Rattle.sound_records.specs.Scan as spec;
+use domains::domain_held;
+use domains::hints_of;
+use form::opens;
+use rules::Settings;
+use runs::run_end;
+use shares::shares_kept;
+
+// The keys of a guest's domains: a key is guest times this plus domain.
+const DOMAIN_SPAN: u64 = 4294967296;
+
+// The words of a record.
+const RECORD_WORDS: usize = 5;
+
+// The same for numbers of guests, endpoints and records that have places, and a mask that has a lowest bit.
+fn placed_good<'a>(
+    settings: Settings,
+    listed: usize,
+    live: usize,
+    owners: &'a [u8],
+    attached: &'a [u8; 32],
+    domains: &'a [u32; 32],
+    t: &'a [u64],
+) -> bool
+    requires { ⌜ (settings .guests ≤ 4) × (0 < settings .mask) × (listed ≤ 32) × (listed ≤ length (now owners)) × (live ≤ length (records (now t))) ⌝ }
+    ensures { λ b. ⌜ b ≡ (spec.scan (spec.ownGood settings) (spec.domainGood listed (now (owners .entry)) (now (attached .entry)) (now (domains .entry))) true noMapping (take live (records (now (t .entry)))) && spec.sharesKept settings (take live (records (now (t .entry))))) ⌝ }
+{
+    let guests = settings.guests;
+    let mask = settings.mask;
+    let input = settings.input;
+    let firsts = settings.firsts;
+    let lasts = settings.lasts;
+    let hints = hints_of(listed, owners, attached, domains);
+    let mut counts: [usize; 4] = [0; 4];
+    let mut key: u64 = 0;
+    let mut i: usize = 0;
+    while i < live {
+        let r = table::get(t, i);
+        let g = (r.key / DOMAIN_SPAN) as usize;
+        if g >= guests {
+            return false;
+        }
+        let first = firsts[g];
+        let last = lasts[g];
+        if !opens(i == 0, key, mask, input, first, last, r) {
+            return false;
+        }
+        if !domain_held(listed, owners, attached, domains, &hints, r) {
+            return false;
+        }
+        let next = run_end(t, i + 1, live, r.key, r.end, mask, input, first, last);
+        let count = counts[g];
+        counts[g] = count + (next - i);
+        key = r.key;
+        i = next;
+    }
+    shares_kept(settings, counts)
+}
+
+// Whether the first live records are in order and apart, each would pass steps 1 to 6 of MAP, and no guest holds more
+// than its share; false where a count has no places, or the mask is zero.
+pub fn records_good<'a>(
+    settings: Settings,
+    listed: usize,
+    live: usize,
+    owners: &'a [u8; 32],
+    attached: &'a [u8; 32],
+    domains: &'a [u32; 32],
+    t: &'a [u64],
+) -> bool
+    ensures { λ b. ⌜ b ≡ (every? (spec.placesTests settings listed live (now (t .entry))) && (spec.scan (spec.ownGood settings) (spec.domainGood listed (now (owners .entry)) (now (attached .entry)) (now (domains .entry))) true noMapping (take live (records (now (t .entry)))) && spec.sharesKept settings (take live (records (now (t .entry)))))) ⌝ }
+{
+    if !((settings.guests <= 4)
+        & ((0 < settings.mask) & ((listed <= 32) & (live <= t.len() / RECORD_WORDS)))) {
+        return false;
+    }
+    placed_good(settings, listed, live, owners, attached, domains, t)
+}

@@ -1,0 +1,162 @@
+// Records that start the device or call it.
+ghost use Prim.Native.Nat.{_+_, _≤_};
+ghost use lib.ListN.{length};
+ghost use Rattle.items.specs.declared.Item.the-variants as item;
+ghost use Rattle.items.specs.Items.{Fits};
+ghost use Rattle.rules.specs.Device.{step, fetch-for};
+ghost use Rattle.effects.specs.Flat.{device};
+ghost use Rattle.playing.specs.Turns.{turnOf, fetchedTurn};
+ghost use Rattle.playing.specs.Telling.{Tells};
+use items::StartFields;
+use lines::put;
+use playing::naming;
+use playing::player::Player;
+use playing::player::Turned;
+use playing::results::idle;
+use playing::results::worked;
+use rules::Endpoint;
+use rules::Guest;
+use rules::State;
+
+// The letters of a start's and a reset's line.
+const LETTER_S: u8 = 83;
+
+const LETTER_Z: u8 = 90;
+
+// Set-up with what was named, unless the journal has started.
+pub(crate) fn start(
+    p: Player,
+    t: &mut [u64],
+    s: &[u8],
+    f: StartFields,
+    out: &mut [u8],
+    at: usize,
+) -> Turned
+    requires { ⌜ at + 848 ≤ length (now out) ⌝ }
+    ensures { λ r. ⌜ Tells r (now (t .exit)) (now (out .entry)) (now (out .exit)) at (turnOf p (now (t .entry)) (now (s .entry)) (item.Start f)) ⌝ }
+{
+    if p.started {
+        return idle(p, true);
+    }
+    let state = p.state;
+    let given = naming::start(state, t, f);
+    let answer = given.answer;
+    let next = given.state;
+    let k = printing::put_number(out, at, LETTER_S, answer);
+    worked(true, next, items::size_of(s), k)
+}
+
+// A request, with a writable part of four bytes.
+pub(crate) fn request(
+    p: Player,
+    t: &mut [u64],
+    s: &[u8],
+    g: Guest,
+    out: &mut [u8],
+    at: usize,
+) -> Turned
+    requires { ⌜ Fits (now s) × (at + 848 ≤ length (now out)) ⌝ }
+    ensures { λ r. ⌜ Tells r (now (t .exit)) (now (out .entry)) (now (out .exit)) at (turnOf p (now (t .entry)) (now (s .entry)) (item.Request g)) ⌝ }
+{
+    if !p.started {
+        return idle(p, true);
+    }
+    let n = items::size_of(s);
+    let mut writable: [u8; 4] = [0; 4];
+    let state = p.state;
+    let given = requests::request(state, t, g, &s[2..n], &mut writable);
+    let answer = given.answer;
+    let next = given.state;
+    let k = put::put_request(out, at, answer, &writable);
+    worked(true, next, n, k)
+}
+
+// An access.
+pub(crate) fn access(
+    p: Player,
+    t: &[u64],
+    s: &[u8],
+    e: Endpoint,
+    address: u64,
+    kind: u8,
+    out: &mut [u8],
+    at: usize,
+) -> Turned
+    requires { ⌜ at + 848 ≤ length (now out) ⌝ }
+    ensures { λ r. ⌜ Tells r (now (t .entry)) (now (out .entry)) (now (out .exit)) at (turnOf p (now (t .entry)) (now (s .entry)) (item.Access e address kind)) ⌝ }
+{
+    if !p.started {
+        return idle(p, true);
+    }
+    let state = p.state;
+    let given = accesses::access(state, t, e, address, kind);
+    let answer = given.answer;
+    let next = given.state;
+    let k = put::put_access(out, at, answer);
+    worked(true, next, items::size_of(s), k)
+}
+
+// A reset.
+pub(crate) fn reset(
+    p: Player,
+    t: &mut [u64],
+    s: &[u8],
+    g: Guest,
+    out: &mut [u8],
+    at: usize,
+) -> Turned
+    requires { ⌜ at + 848 ≤ length (now out) ⌝ }
+    ensures { λ r. ⌜ Tells r (now (t .exit)) (now (out .entry)) (now (out .exit)) at (turnOf p (now (t .entry)) (now (s .entry)) (item.Reset g)) ⌝ }
+{
+    if !p.started {
+        return idle(p, true);
+    }
+    let state = p.state;
+    let given = requests::resetting::reset(state, t, g);
+    let answer = given.answer;
+    let next = given.state;
+    let k = printing::put_number(out, at, LETTER_Z, answer);
+    worked(true, next, items::size_of(s), k)
+}
+
+// A fetch into a buffer for at most 16 records.
+fn fetch_into(
+    state: State,
+    t: &[u64],
+    s: &[u8],
+    g: Guest,
+    buffer: &mut [u8],
+    out: &mut [u8],
+    at: usize,
+) -> Turned
+    requires { ⌜ (length (now buffer) ≤ 384) × (at + 848 ≤ length (now out)) ⌝ }
+    ensures { λ r. ⌜ Tells r (now (t .entry)) (now (out .entry)) (now (out .exit)) at (fetchedTurn (now (s .entry)) (step (device state (now (t .entry))) (fetch-for g (now (buffer .entry))))) ⌝ }
+{
+    let given = fetches::fetch(state, t, g, buffer);
+    let answer = given.answer;
+    let next = given.state;
+    let k = put::put_fetch(out, at, answer, buffer);
+    worked(true, next, items::size_of(s), k)
+}
+
+// A fetch of at most n records, into a buffer that holds them.
+pub(crate) fn fetch(
+    p: Player,
+    t: &[u64],
+    s: &[u8],
+    g: Guest,
+    n: usize,
+    out: &mut [u8],
+    at: usize,
+) -> Turned
+    requires { ⌜ (n ≤ 16) × (at + 848 ≤ length (now out)) ⌝ }
+    ensures { λ r. ⌜ Tells r (now (t .entry)) (now (out .entry)) (now (out .exit)) at (turnOf p (now (t .entry)) (now (s .entry)) (item.Fetch g n)) ⌝ }
+{
+    if !p.started {
+        return idle(p, true);
+    }
+    let state = p.state;
+    let mut buffer: [u8; 384] = [0; 384];
+    let m = 24 * n;
+    fetch_into(state, t, s, g, &mut buffer[..m], out, at)
+}

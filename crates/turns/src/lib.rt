@@ -1,0 +1,38 @@
+// One record of a journal: what it does, and the lines that it prints.
+mod called;
+
+ghost use lib.ListN.{length};
+ghost use Rattle.playing.specs.Turns as turns;
+ghost use Rattle.playing.specs.Telling.{Tells};
+use items::Item;
+use playing::named;
+use playing::player::Player;
+use playing::player::Turned;
+use playing::results::idle;
+
+// The room that the lines of one record may take.
+const TURN_ROOM: usize = 848;
+
+// The record at the front of s, the rest of a journal; its lines are put at place `at`. None is worked where there may be
+// no room for them.
+pub fn turn(p: Player, t: &mut [u64], s: &[u8], out: &mut [u8], at: usize) -> Turned
+    ensures { λ r. ⌜ Tells r (now (t .exit)) (now (out .entry)) (now (out .exit)) at (turns.turnIn (length (now (out .entry))) at p (now (t .entry)) (now (s .entry))) ⌝ }
+{
+    if out.len() < TURN_ROOM {
+        return idle(p, false);
+    }
+    if out.len() - TURN_ROOM < at {
+        return idle(p, false);
+    }
+    match items::front(s) {
+        Item::Cut => idle(p, false),
+        Item::Wrong => idle(p, true),
+        Item::NamedGuest(f) => named::guest(p, s, f),
+        Item::NamedEndpoint(e, g) => named::endpoint(p, s, e, g),
+        Item::Start(f) => called::start(p, t, s, f, out, at),
+        Item::Request(g) => called::request(p, t, s, g, out, at),
+        Item::Access(e, address, kind) => called::access(p, t, s, e, address, kind, out, at),
+        Item::Reset(g) => called::reset(p, t, s, g, out, at),
+        Item::Fetch(g, n) => called::fetch(p, t, s, g, n, out, at),
+    }
+}
