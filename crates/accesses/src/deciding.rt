@@ -7,19 +7,19 @@ ghost use Rattle.rules.specs.declared.Mapping.{Mapping};
 ghost use Rattle.rules.specs.Table.{records};
 ghost use Rattle.rules.specs.Access.{lookup};
 ghost use Rattle.effects.specs.Flat.{answerOf, decided};
-use endpoints::moves::key_of;
+use lookups::Found;
+use moves::key_of;
 use rules::Answer;
 use rules::Domain;
 use rules::Endpoint;
 use rules::Guest;
-use searching::Found;
 
 // The answer of an access of this kind under a domain's key.
 fn translate(t: &[u64], live: usize, key: u64, address: u64, kind: u8) -> Answer
     requires { ⌜ ((r : Mapping) → lookup key address kind (take live (records (now t))) ≡ some r → address - r .start + r .phys ≤ 18446744073709551615) ⌝ }
     ensures { λ r. ⌜ r ≡ answerOf address (lookup key address kind (take live (records (now (t .entry))))) ⌝ }
 {
-    match searching::lookup(t, live, key, address, kind) {
+    match lookups::lookup(t, live, key, address, kind) {
         Found::At(r) => Answer::Through(address - r.start + r.phys),
         Found::Nothing => Answer::Unmapped,
     }

@@ -1,19 +1,19 @@
 -- Accesses and fetches on sound state and table, as the device's step has them, are what the arrays and words give.
-use Prim.Native.Nat.{ℕ, zero, suc, _+_, _-_, _*_, _/_, _%_, _≤_, _<_, min}
-use mathlib.Core.Path.{_≡_, refl, sym, ap, subst, _∙_}
-use mathlib.Core.Bool.{Bool, true, false, cond, not, _&&_, _||_}
-use mathlib.Core.List.{List, [], _∷_, _++_}
+use Prim.Native.Nat.{ℕ, _+_, _-_, _*_, _/_, _≤_, _<_, min}
+use mathlib.Core.Path.{_≡_, refl, sym, ap, _∙_}
+use mathlib.Core.Bool.{Bool, true, false, cond}
+use mathlib.Core.List.{List, [], _++_}
 use mathlib.Core.Option.{Option, some, none}
 use native.Mathlib.Omega.{arith}
 use native.Mathlib.Nat.{min-le-left}
-use lib.Dec.{leb, ltb, eqb}
+use lib.Dec.{ltb, eqb}
 use lib.ListN.{length, getD, take, drop, length-take}
 use lib.Seq.{getD-take, length-take-le}
-use borrow.Author.Tests.{ltb-true, ltb-false, lt-ltb, eqb-true, eq-eqb}
+use borrow.Author.Tests.{ltb-true, eq-eqb}
 use Rattle.laws.specs.Lists.{find, tab}
 use Rattle.laws.proofs.Filters.{find-keep}
 use Rattle.laws.proofs.Tables.{length-tab, getD-tab, tab-is}
-use Rattle.laws.proofs.Tests.{both-left, true-false}
+use Rattle.laws.proofs.Tests.{both-left}
 use Rattle.rules.specs.declared.Guest.{Guest}
 use Rattle.rules.specs.declared.Endpoint.{Endpoint}
 use Rattle.rules.specs.declared.Domain.{Domain}
@@ -22,7 +22,7 @@ use Rattle.rules.specs.declared.Mapping.{Mapping}
 use Rattle.rules.specs.declared.Fault.{Fault}
 use Rattle.rules.specs.declared.Answer.{Answer}
 use Rattle.rules.specs.declared.Answer.the-variants.{Through, Fetched, UnknownEndpoint, Unattached, Unmapped}
-use Rattle.rules.specs.Sizes.{domainSpan, maxFaults, faultSize}
+use Rattle.rules.specs.Sizes.{maxFaults, faultSize}
 use Rattle.rules.specs.Configuration.{Config}
 use Rattle.rules.specs.Table.{keyOf, guestOf}
 use Rattle.rules.specs.State.{Attachment, Log, World, Device, noFault, configOf, read, write, flagOf, numberOf, faultAt, logAt}
@@ -31,14 +31,14 @@ use Rattle.rules.specs.Handlers.{attachmentOf, ofKey}
 use Rattle.rules.specs.Access.{permits, lookup, faultOf, logged, fetchable, fetchedInto, fetchedFrom, bytesOf}
 use Rattle.rules.specs.Access as A
 use Rattle.rules.specs.Sound.{guest, sound}
-use Rattle.rules.specs.Device.{Call, access-by, fetch-for, Reply, refused, rule, ownerOf, caller, numbered, work, step}
+use Rattle.rules.specs.Device.{access-by, fetch-for, Reply, rule, ownerOf, caller, work, step}
 use Rattle.rules.specs.Device as rules
-use Rattle.rules.proofs.Worlds.{Good, good-facts, Whole, caller-below}
-use Rattle.rules.proofs.Reading.{sound-good, sound-whole, sound-listed, log-read}
+use Rattle.rules.proofs.Worlds.{caller-below}
+use Rattle.rules.proofs.Reading.{sound-good, sound-listed, log-read}
 use Rattle.logging.specs.Changes.{faultLogged}
 use Rattle.dropping.specs.Changes.{faultsDropped}
 use Rattle.attachments.specs.Search.{indexOf}
-use Rattle.effects.specs.Flat.{device, placeOf, isAttached, liveRecords, answerOf, decided, decision, reasonOf, accessed, fetchCount, fetchBytes}
+use Rattle.effects.specs.Flat.{device, placeOf, isAttached, liveRecords, answerOf, decided, decision, accessed, fetchCount, fetchBytes}
 use Rattle.effects.specs.Checked.{Shaped}
 use Rattle.effects.proofs.Places.{owner-at}
 use Rattle.effects.proofs.Leaving.{replace-same, attachment-here, flag-here, number-here, of-key-mine}

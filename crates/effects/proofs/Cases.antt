@@ -1,7 +1,6 @@
 -- What a parsed request's handler gives, by its case.
 use Prim.Native.Nat.{ℕ}
-use mathlib.Core.Path.{_≡_, refl, sym, ap, _∙_}
-use mathlib.Core.List.{List}
+use mathlib.Core.Path.{_≡_, ap, _∙_}
 use Rattle.rules.specs.declared.Guest.{Guest}
 use Rattle.rules.specs.declared.Domain.{Domain}
 use Rattle.rules.specs.declared.Endpoint.{Endpoint}
@@ -13,7 +12,7 @@ use Rattle.layouts.specs.declared.request.Request.the-variants.{Refused, Attach
 use Rattle.layouts.specs.declared.request.MapFields.{MapFields}
 use Rattle.layouts.specs.declared.request.UnmapFields.{UnmapFields}
 use Rattle.effects.specs.Flat.{Worked, worked, attachFlat, detachFlat, mapFlat, unmapFlat}
-use Rattle.effects.specs.Serve.{recordOf, handled}
+use Rattle.effects.specs.Serve.{handled}
 
 module _ (d : Device) (g : Guest) (q : Request) where
   pub handled-refused : (a : Answer) → q ≡ Refused a → worked 0 d ≡ handled d g q

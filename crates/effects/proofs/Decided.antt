@@ -28,13 +28,13 @@ use Rattle.rules.specs.Sizes.{domainSpan}
 use Rattle.rules.specs.State.{faultAt}
 use Rattle.rules.specs.Access.{permits, lookup, faultOf, faultBytes, bytesOf}
 use Rattle.rules.proofs.Access.{permits-covers}
-use Rattle.searching.specs.declared.Found.{Found}
-use Rattle.searching.specs.declared.Found.the-variants.{At, Nothing}
-use Rattle.searching.specs.Outcomes.{foundOf}
-use Rattle.searching.proofs.Outcomes.{found-at, found-nothing}
+use Rattle.lookups.specs.declared.Found.{Found}
+use Rattle.lookups.specs.declared.Found.the-variants.{At, Nothing}
+use Rattle.lookups.specs.Outcomes.{foundOf}
+use Rattle.lookups.proofs.Outcomes.{found-at, found-nothing}
 use Rattle.logging.specs.Changes.{faultLogged}
 use Rattle.attachments.specs.Search.{indexOf}
-use Rattle.wire.proofs.Laws.{length-fault, fault-whole}
+use Rattle.fault_records.proofs.Laws.{length-fault, fault-whole}
 use Rattle.effects.specs.Flat.{placeOf, answerOf, decided, reasonOf, accessed, fetchBytes}
 
 -- ACCESS

@@ -1,5 +1,5 @@
 -- What each entry shows at its returns.
-use Prim.Native.Nat.{ℕ, suc, _+_, _-_, _*_, _/_, _^_, _≤_, _<_, min}
+use Prim.Native.Nat.{ℕ, suc, _+_, _-_, _*_, _/_, _≤_, _<_, min}
 use mathlib.Core.Path.{_≡_, refl, sym, ap, subst, _∙_}
 use mathlib.Core.Bool.{Bool, true, false, cond, not, _&&_}
 use mathlib.Core.List.{List, [], _∷_}
@@ -10,9 +10,9 @@ use denote.Enum.Declared.{tagOf}
 use types.Run.{OneOf, miss}
 use lib.Dec.{ltb, leb, eqb}
 use lib.ListN.{length, getD, take}
-use borrow.Author.Tests.{lt-ltb, le-ltb, le-leb, ltb-true, leb-true, eqb-true, eqb-false, not-true, not-false}
-use Rattle.laws.specs.Lists.{all?, find, firstFailing}
-use Rattle.laws.proofs.Tests.{both-left, both-right, nor, opened, Clear, cleared}
+use borrow.Author.Tests.{lt-ltb, le-ltb, le-leb, leb-true, eqb-true, not-true, not-false}
+use Rattle.laws.specs.Lists.{all?, firstFailing}
+use Rattle.laws.proofs.Tests.{nor, Clear, cleared}
 use Rattle.laws.proofs.Filters.{all-imp, found}
 use Rattle.laws.proofs.Tables.{below-at}
 use Rattle.rules.specs.declared.Guest.{Guest}
@@ -21,19 +21,19 @@ use Rattle.rules.specs.declared.State.{State}
 use Rattle.rules.specs.declared.Mapping.{Mapping}
 use Rattle.rules.specs.declared.Answer.{Answer}
 use Rattle.rules.specs.declared.Answer.the-variants.{Done, Served, Fetched, NoSuchGuest, Unsound}
-use Rattle.rules.specs.Sizes.{faultSize, maxFaults, maxRecords}
-use Rattle.rules.specs.Configuration.{Config, first, last, settingsTests, goodSettings, goodLists, good}
-use Rattle.rules.specs.Table.{records, guestOf}
+use Rattle.rules.specs.Sizes.{faultSize, maxRecords}
+use Rattle.rules.specs.Configuration.{first, last, good}
+use Rattle.rules.specs.Table.{records}
 use Rattle.rules.specs.State.{World, Device, configOf, read}
 use Rattle.rules.specs.Guests.{own, part, recordsOf}
 use Rattle.rules.specs.Requests.{ATTACH, UNMAP, requestRefusals, typeOf, writableLength, domainField, endpointField, attachReserved}
 use Rattle.rules.specs.Handlers.{outside, formSteps}
 use Rattle.rules.specs.Access.{permits, lookup}
-use Rattle.rules.specs.Sound.{guest, recordGood, passes, sound, soundTests}
-use Rattle.rules.specs.Device.{Call, request, access-by, reset-of, fetch-for, Reply, refused, numbered, step}
+use Rattle.rules.specs.Sound.{guest, sound}
+use Rattle.rules.specs.Device.{request, access-by, reset-of, fetch-for, Reply, refused, step}
 use Rattle.rules.proofs.Parts.{outside-high, record-form, recordOk}
-use Rattle.rules.proofs.Worlds.{Good, Whole}
-use Rattle.rules.proofs.Access.{Covers, permits-covers}
+use Rattle.rules.proofs.Worlds.{Whole}
+use Rattle.rules.proofs.Access.{permits-covers}
 use Rattle.rules.proofs.Reading.{tests, sound-good, sound-whole}
 use Rattle.rules.proofs.Soundness.{all-guests}
 use Rattle.layouts.specs.declared.request.Request.{Request}
@@ -134,9 +134,6 @@ module _ (s : State) (ws : List ℕ) (h : sound (device s ws) ≡ true) (k : Sha
 
   pub few-guests : s .settings .guests ≤ 4
   few-guests = unfold configOf in sound-good (device s ws) h .guests .1
-
-  pub mask-set : 0 < s .settings .mask
-  mask-set = unfold configOf good goodSettings in (let t = opened (settingsTests (s .settings)) (both-left (goodSettings (s .settings)) (goodLists (s .settings) (take (s .listed) (s .endpoints)) (take (s .listed) (s .owners))) (tests (device s ws) h .1 .0)) in let z = eqb-false (s .settings .mask) 0 (not-true _ (t .1 .1 .1 .1 .1 .0)) in omega (arith, z))
 
   -- a log's count is at most 16, and what is fetched fits
   pub count-fits : (g : Guest) → g .0 < s .settings .guests → (b : List ℕ) (n : ℕ) → n ≡ fetchCount s g (length b) → (n ≤ 16) × (24 * n ≤ length b)

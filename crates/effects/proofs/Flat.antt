@@ -1,20 +1,18 @@
 -- One guest's records, changed and put back, against the same change on the whole table.
-use Prim.Native.Nat.{ℕ, zero, suc, _+_, _-_, _*_, _/_, _≤_, _<_}
+use Prim.Native.Nat.{_+_, _-_, _≤_, _<_}
 use mathlib.Core.Path.{_≡_, refl, sym, ap, _∙_}
 use mathlib.Core.Bool.{Bool, true, false, cond, not, _&&_, _||_}
-use mathlib.Core.List.{List, [], _∷_, _++_, append-nil}
-use mathlib.Core.Logic.{_⊎_, inl, inr, ⊎-elim}
+use mathlib.Core.List.{List, [], _∷_, _++_}
+use mathlib.Core.Logic.{_⊎_, ⊎-elim}
 use native.Mathlib.Omega.{arith}
-use lib.Dec.{leb, ltb, eqb}
-use lib.ListN.{length}
-use borrow.Author.Tests.{ltb-true, ltb-false, eqb-true, eqb-false, eq-eqb, ne-eqb, lt-ltb, le-ltb, not-true}
+use lib.Dec.{ltb, eqb}
+use borrow.Author.Tests.{ltb-true, ltb-false, eq-eqb, ne-eqb, le-ltb, not-true}
 use Rattle.laws.specs.Lists.{all?, any?, keep, pairwise}
-use Rattle.laws.proofs.Tests.{both, both-left, both-right, true-false, same-test}
+use Rattle.laws.proofs.Tests.{both, both-left, both-right}
 use Rattle.laws.proofs.Filters.{all-imp, all-kept, keep-all, keep-none, keep-append, keep-keep, any-keep}
 use Rattle.rules.specs.declared.Guest.{Guest}
 use Rattle.rules.specs.declared.Mapping.{Mapping}
-use Rattle.rules.specs.Sizes.{domainSpan}
-use Rattle.rules.specs.Table.{guestOf, before, overlap, insert}
+use Rattle.rules.specs.Table.{guestOf, before, insert}
 use Rattle.rules.specs.Guests.{recordsOf, withRecordsOf}
 use Rattle.rules.proofs.Records.{before-cases, before-guest, mine}
 

@@ -1,17 +1,17 @@
 -- Endpoints that leave and enter domains, on the arrays and words, against the rules on the guest's part.
-use Prim.Native.Nat.{ℕ, zero, suc, _+_, _-_, _*_, _/_, _%_, _^_, _≤_, _<_}
-use mathlib.Core.Path.{_≡_, refl, sym, ap, subst, _∙_}
+use Prim.Native.Nat.{ℕ, _-_, _/_, _^_, _≤_, _<_}
+use mathlib.Core.Path.{_≡_, refl, sym, ap, _∙_}
 use mathlib.Core.Bool.{Bool, true, false, cond, not, _&&_, _||_}
-use mathlib.Core.List.{List, [], _∷_, _++_}
-use mathlib.Core.Option.{Option, some, none}
+use mathlib.Core.List.{List, [], _∷_}
+use mathlib.Core.Option.{some, none}
 use native.Mathlib.Omega.{arith}
 use lib.Dec.{leb, ltb, eqb}
-use lib.ListN.{length, getD, set, take, length-set, length-take, List·getD-eq-default}
+use lib.ListN.{length, getD, set, length-set}
 use lib.Seq.{set-getD, set-set}
-use borrow.Author.Tests.{ltb-true, ltb-false, leb-true, eqb-true, eqb-false, eq-eqb, ne-eqb, lt-ltb, le-leb, not-true, not-false}
-use Rattle.laws.specs.Lists.{all?, any?, keep, pairwise, pickBy, weaveBy, firstFailing}
+use borrow.Author.Tests.{ltb-true, leb-true, eqb-true, eq-eqb, le-leb}
+use Rattle.laws.specs.Lists.{all?, keep, pickBy, weaveBy}
 use Rattle.laws.proofs.Tests.{both, both-left, both-right, true-false, same-test, nor, opened, Clear}
-use Rattle.laws.proofs.Filters.{all-imp, keep-all, keep-same}
+use Rattle.laws.proofs.Filters.{all-imp}
 use Rattle.laws.proofs.Tables.{getD-tab}
 use Rattle.laws.proofs.Owners.{weave-pick, pick-weave}
 use Rattle.rules.specs.declared.Guest.{Guest}
@@ -19,27 +19,27 @@ use Rattle.rules.specs.declared.Endpoint.{Endpoint}
 use Rattle.rules.specs.declared.Domain.{Domain}
 use Rattle.rules.specs.declared.State.{State}
 use Rattle.rules.specs.declared.Mapping.{Mapping}
-use Rattle.rules.specs.Sizes.{domainSpan, maxRecords, maxEndpoints}
-use Rattle.rules.specs.Configuration.{Config, settingsTests, goodSettings, goodLists, listTests, good}
-use Rattle.rules.specs.Table.{keyOf, guestOf, before}
-use Rattle.rules.specs.State.{Attachment, World, Device, noLog, configOf, read, flagOf, numberOf, logOf, stateOf, write, trimmed}
+use Rattle.rules.specs.Sizes.{domainSpan, maxEndpoints}
+use Rattle.rules.specs.Configuration.{Config, settingsTests, goodSettings, goodLists, good}
+use Rattle.rules.specs.Table.{keyOf, guestOf}
+use Rattle.rules.specs.State.{Attachment, World, Device, noLog, flagOf, numberOf, stateOf, write}
 use Rattle.rules.specs.Guests.{Own, Part, own, part, replace, recordsOf, withRecordsOf}
-use Rattle.rules.specs.Handlers.{outside, isIn, exists, listed, attachmentOf, attachedAs, ofKey, without, leave, enter, moveFrom, attached, formSteps, recordSteps}
-use Rattle.rules.specs.Sound.{guest, recordGood}
+use Rattle.rules.specs.Handlers.{outside, isIn, exists, listed, attachmentOf, attachedAs, ofKey, without, leave, enter, attached, formSteps}
+use Rattle.rules.specs.Sound.{guest}
 use Rattle.rules.specs.Device.{ownerOf, is}
 use Rattle.rules.proofs.Records.{mine, key-guest}
 use Rattle.rules.proofs.Attachments.{length-attachedAs}
-use Rattle.rules.proofs.Parts.{Facts, inRange, recordOk, record-form, outside-high}
-use Rattle.rules.proofs.Worlds.{Good, good-facts, Whole, same-guest}
+use Rattle.rules.proofs.Parts.{recordOk, record-form, outside-high}
+use Rattle.rules.proofs.Worlds.{Good, good-facts, Whole}
 use Rattle.rules.proofs.Shares.{fits}
 use Rattle.rules.proofs.Soundness.{all-guests}
-use Rattle.rules.proofs.Writing.{kept, config-back}
-use Rattle.rewriting.specs.Rewritten.{within}
+use Rattle.rules.proofs.Writing.{kept}
+use Rattle.removal.specs.Removed.{within}
 use Rattle.attachments.specs.Changes.{attachedAt}
 use Rattle.attachments.specs.Search.{indexOf}
-use Rattle.effects.specs.Flat.{device, topAddress, placeOf, ownedAt, isAttached, domainAt, existsFlat, removed, left, entered, moved}
+use Rattle.effects.specs.Flat.{device, topAddress, isAttached, existsFlat, removed, left, entered, moved}
 use Rattle.effects.proofs.Flat.{with-same, with-kept}
-use Rattle.effects.proofs.Places.{owner-at, attachment-at, attached-at, listed-owned}
+use Rattle.effects.proofs.Places.{owner-at, attachment-at, attached-at}
 use Rattle.effects.proofs.Written.{withAtts, withRecs, attached-written, exists-written, removed-written}
 
 -- two filters that agree on what all elements pass

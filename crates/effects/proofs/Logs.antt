@@ -1,17 +1,17 @@
 -- Changes of the fault arrays that a world wrote are those that the changed world writes.
 use Prim.Native.Nat.{ℕ, zero, suc, _+_, _-_, _*_, _/_, _%_, _≤_, _<_}
-use mathlib.Core.Path.{_≡_, refl, sym, ap, subst, _∙_}
-use mathlib.Core.Bool.{Bool, true, false, cond, not, _&&_, _||_}
+use mathlib.Core.Path.{_≡_, refl, sym, ap, _∙_}
+use mathlib.Core.Bool.{Bool, true, false, cond, _&&_}
 use mathlib.Core.List.{List, [], _∷_, _++_}
-use mathlib.Core.Option.{Option, some, none}
+use mathlib.Core.Option.{none}
 use native.Mathlib.Omega.{arith}
 use lib.Dec.{leb, ltb, eqb}
-use lib.ListN.{length, getD, set, drop, replicate, length-append, length-drop, length-replicate, List·getD-eq-default, List·getD-append}
+use lib.ListN.{length, getD, set, drop, replicate, length-append, length-drop, List·getD-eq-default, List·getD-append}
 use lib.Seq.{getD-set-same, getD-set-other, getD-drop, getD-append-seam, set-getD}
-use borrow.Author.Tests.{ltb-true, ltb-false, eqb-true, eqb-false, eq-eqb, ne-eqb, lt-ltb, le-ltb, leb-true}
+use borrow.Author.Tests.{ltb-true, ltb-false, eqb-true, eqb-false, le-ltb, leb-true}
 use Rattle.laws.specs.Lists.{tab, weaveBy, pickBy}
-use Rattle.laws.proofs.Tests.{either-way, true-false, opened}
-use Rattle.laws.proofs.Tables.{length-tab, getD-tab, tab-is, tab-same}
+use Rattle.laws.proofs.Tests.{opened}
+use Rattle.laws.proofs.Tables.{getD-tab, tab-same}
 use Rattle.laws.proofs.Owners.{length-weave}
 use Rattle.rules.specs.declared.Guest.{Guest}
 use Rattle.rules.specs.declared.State.{State}
@@ -23,8 +23,8 @@ use Rattle.rules.specs.Guests.{own, part}
 use Rattle.rules.specs.Access.{logged, fetchedFrom}
 use Rattle.rules.specs.Sound.{guest}
 use Rattle.rules.proofs.Parts.{logTests, logOk}
-use Rattle.rules.proofs.Worlds.{Good, good-facts, Whole}
-use Rattle.state.specs.Fields.{withAttachments, withCounts, withFaults}
+use Rattle.rules.proofs.Worlds.{good-facts, Whole}
+use Rattle.state.specs.Fields.{withCounts}
 use Rattle.logging.specs.Changes.{faultStored, faultLogged}
 use Rattle.dropping.specs.Changes.{shifted, shiftedAll, faultsDropped}
 use Rattle.resets.specs.Changes.{zeroOf, zeroedOf, guestCleared}

@@ -1,18 +1,15 @@
 -- What the functions of MAP and UNMAP show at their returns: windows without a sum that could wrap, and the handlers as laws on states
 -- and words.
-use Prim.Native.Nat.{ℕ, zero, suc, _+_, _-_, _*_, _/_, _%_, _^_, _<_, _≤_}
+use Prim.Native.Nat.{ℕ, _+_, _-_, _%_, _<_, _≤_}
 use mathlib.Core.Path.{_≡_, refl, sym, ap, _∙_}
 use mathlib.Core.Bool.{Bool, true, false, not, _&&_, _||_}
 use mathlib.Core.List.{List, [], _∷_}
 use mathlib.Core.Logic.{⊎-elim}
 use native.Mathlib.Numerals.{add-one}
 use native.Mathlib.Omega.{arith}
-use native.Mathlib.Nat.{pow-suc, mod-lt, mod-self, mod-eq-of-lt, mod-add-mod, eq-or-lt-of-le, one-mul}
-use lib.Count.{trailingZeros, under}
 use lib.Dec.{leb, ltb, eqb}
 use lib.ListN.{length, take}
-use lib.Pow.{shl-exact}
-use borrow.Author.Tests.{ltb-true, eq-eqb, ne-eqb, lt-ltb, le-ltb, le-leb, lt-leb}
+use borrow.Author.Tests.{ltb-true, ne-eqb, lt-ltb, le-ltb, le-leb, lt-leb}
 use Rattle.laws.specs.Lists.{any?}
 use Rattle.laws.proofs.Tests.{or-cases, or-left, or-right, same-test}
 use Rattle.rules.specs.declared.Guest.{Guest}
@@ -24,7 +21,7 @@ use Rattle.rules.specs.Configuration.{share, first, last}
 use Rattle.rules.specs.Table.{keyOf, records, overlap}
 use Rattle.rules.specs.Guests.{recordsOf}
 use Rattle.rules.specs.Handlers.{outside, granularity, straddles}
-use Rattle.rewriting.specs.Rewritten.{insertedWords}
+use Rattle.insertion.specs.Inserted.{insertedWords}
 use Rattle.state.specs.Fields.{withLive}
 use Rattle.effects.specs.Flat.{worked, device, existsFlat, removed, inserted, firstOf, formStatus, mapStatus, mapFlat, mapPlaced, unmapStatus, unmapFlat, topAddress}
 
@@ -56,6 +53,11 @@ module _ (first last p a b : ℕ) where
 
 -- STATUSES
 
+-- not both, and one or the other not
+neither : (a b : Bool) → not (a && b) ≡ (not a || not b)
+neither true b = refl
+neither false b = refl
+
 module _ (s : Settings) (g : Guest) (r : Mapping) where
   pub form-flags : 3 < r .flags → 4 ≡ formStatus s g r
   unfolding formStatus
@@ -65,11 +67,12 @@ module _ (s : Settings) (g : Guest) (r : Mapping) where
   unfolding formStatus
   form-order f h = rw (le-ltb 3 (r .flags) f, le-leb (r .end) (r .start) h)
 
-  pub form-rest : (x : ℕ) (a i j w : Bool) → r .flags ≤ 3 → r .start < r .end → a ≡ (not (eqb (r .start % granularity (s .mask)) 0) || not (eqb ((r .end + 1) % granularity (s .mask)) 0))
+  pub form-rest : (x : ℕ) (a i j w : Bool) → r .flags ≤ 3 → r .start < r .end → a ≡ (eqb (r .start % granularity (s .mask)) 0 && eqb ((r .end + 1) % granularity (s .mask)) 0)
       → i ≡ outside (s .input .start) (s .input .end) (r .start) → j ≡ outside (s .input .start) (s .input .end) (r .end)
-      → w ≡ (outside (first s (g .0)) (last s (g .0)) (r .phys) || outside (first s (g .0)) (last s (g .0)) (r .phys + r .end - r .start)) → x ≡ firstOf ((a, 5) ∷ (i || j, 5) ∷ (w, 7) ∷ []) → x ≡ formStatus s g r
+      → w ≡ (outside (first s (g .0)) (last s (g .0)) (r .phys) || outside (first s (g .0)) (last s (g .0)) (r .phys + r .end - r .start)) → x ≡ firstOf ((not a, 5) ∷ (i || j, 5) ∷ (w, 7) ∷ []) → x ≡ formStatus s g r
   unfolding formStatus
-  form-rest x a i j w f h ea ei ej ew e = e ∙ rw (le-ltb 3 (r .flags) f, lt-leb (r .end) (r .start) h, ea, ei, ej, ew)
+  form-rest x a i j w f h ea ei ej ew e =
+      e ∙ rw (le-ltb 3 (r .flags) f, lt-leb (r .end) (r .start) h, ea, ei, ej, ew, neither (eqb (r .start % granularity (s .mask)) 0) (eqb ((r .end + 1) % granularity (s .mask)) 0))
 
 module _ (s : State) (ws : List ℕ) (g : Guest) (d : Domain) where
   pub map-steps : (r : Mapping) (x f n m : ℕ) (b o : Bool) → b ≡ existsFlat s g d → f ≡ formStatus (s .settings) g r → o ≡ any? (overlap r) (take (s .live) (records ws)) → n ≡ length (recordsOf g (take (s .live) (records ws)))
@@ -84,11 +87,11 @@ module _ (s : State) (ws : List ℕ) (g : Guest) (d : Domain) where
 
   -- HANDLERS
 
-  pub map-unplaced : (r : Mapping) → (ltb 0 (s .settings .mask) && (ltb (g .0) 4 && ltb (s .live) topAddress)) ≡ false → worked 0 (device s ws) ≡ mapPlaced (device s ws) g d r
+  pub map-unplaced : (r : Mapping) → (ltb (g .0) 4 && ltb (s .live) topAddress) ≡ false → worked 0 (device s ws) ≡ mapPlaced (device s ws) g d r
   unfolding mapPlaced
   map-unplaced r h = rw h
 
-  pub map-placed : (r : Mapping) → (ltb 0 (s .settings .mask) && (ltb (g .0) 4 && ltb (s .live) topAddress)) ≡ true → mapPlaced (device s ws) g d r ≡ mapFlat (device s ws) g d r
+  pub map-placed : (r : Mapping) → (ltb (g .0) 4 && ltb (s .live) topAddress) ≡ true → mapPlaced (device s ws) g d r ≡ mapFlat (device s ws) g d r
   unfolding mapPlaced
   map-placed r h = rw h
 

@@ -1,21 +1,20 @@
 -- A guest's attachments, looked up and changed, against the same on the arrays of all endpoints.
-use Prim.Native.Nat.{ℕ, zero, suc, _+_, _≤_, _<_}
-use mathlib.Core.Path.{_≡_, refl, sym, ap, subst, _∙_}
-use mathlib.Core.Bool.{Bool, true, false, cond, not, _&&_, _||_}
+use Prim.Native.Nat.{ℕ, zero, suc, _<_}
+use mathlib.Core.Path.{_≡_, refl, sym, ap, _∙_}
+use mathlib.Core.Bool.{Bool, true, false, cond, not}
 use mathlib.Core.List.{List, [], _∷_}
-use mathlib.Core.Option.{Option, some, none}
+use mathlib.Core.Option.{some, none}
 use native.Mathlib.Omega.{arith}
 use lib.Dec.{ltb, eqb}
 use lib.ListN.{length, getD, set, replicate}
-use borrow.Author.Tests.{ltb-true, ltb-false, eqb-true, eqb-false, eq-eqb, ne-eqb, lt-ltb, le-ltb, not-true}
-use Rattle.laws.specs.Lists.{all?, any?, pairwise, pickBy, weaveBy, headOr, rest, tab}
-use Rattle.laws.proofs.Tests.{both, both-left, both-right, true-false, or-left, or-right, or-cases, same-test}
+use borrow.Author.Tests.{ltb-true, eqb-true, eq-eqb, lt-ltb, not-true}
+use Rattle.laws.specs.Lists.{all?, any?, pairwise, pickBy, weaveBy, headOr, rest}
+use Rattle.laws.proofs.Tests.{both, both-left, both-right, true-false, same-test}
 use Rattle.laws.proofs.Owners.{weave-pick}
 use Rattle.rules.specs.declared.Guest.{Guest}
 use Rattle.rules.specs.declared.Endpoint.{Endpoint}
-use Rattle.rules.specs.declared.Domain.{Domain}
 use Rattle.rules.specs.State.{Attachment}
-use Rattle.rules.specs.Handlers.{isIn, exists, listed, attachmentOf, attachedAs}
+use Rattle.rules.specs.Handlers.{listed, attachmentOf, attachedAs}
 use Rattle.rules.specs.Sound.{guest}
 use Rattle.rules.specs.Device.{ownerOf, is}
 use Rattle.attachments.specs.Search.{indexOf}

@@ -1,14 +1,14 @@
 -- The requests, worked on arrays and words, are the rules' on the guest's part.
-use Prim.Native.Nat.{ℕ, zero, suc, _+_, _-_, _*_, _/_, _%_, _≤_, _<_}
+use Prim.Native.Nat.{ℕ, _+_, _-_, _*_, _<_}
 use mathlib.Core.Path.{_≡_, refl, sym, ap, subst, _∙_}
 use mathlib.Core.Bool.{Bool, true, false, cond, not, _&&_, _||_}
 use mathlib.Core.List.{List, [], _∷_, _++_}
 use mathlib.Core.Option.{Option, some, none}
 use native.Mathlib.Omega.{arith}
 use lib.Dec.{leb, ltb, eqb}
-use lib.ListN.{length, getD, set, take, replicate}
-use borrow.Author.Tests.{ltb-true, ltb-false, leb-true, leb-false, eqb-true, eqb-false, eq-eqb, ne-eqb, lt-ltb, le-leb, not-true, not-false}
-use Rattle.laws.specs.Lists.{all?, any?, keep, pairwise, pickBy, weaveBy, firstFailing}
+use lib.ListN.{length, getD, set, replicate}
+use borrow.Author.Tests.{ltb-true, leb-true, leb-false, eqb-true, eq-eqb, le-leb, not-true, not-false}
+use Rattle.laws.specs.Lists.{all?, any?, keep, pairwise, weaveBy}
 use Rattle.laws.proofs.Tests.{both, both-left, both-right, true-false, same-test, opened, Clear, clear-left, clear-right}
 use Rattle.laws.proofs.Filters.{keep-same}
 use Rattle.laws.proofs.Tables.{getD-tab}
@@ -23,9 +23,9 @@ use Rattle.rules.specs.Sizes.{domainSpan, maxEndpoints, maxRecords}
 use Rattle.rules.specs.Configuration.{Config, share, listTests, goodSettings, goodLists, good}
 use Rattle.rules.specs.Table.{keyOf, guestOf, overlap, insert, records}
 use Rattle.rules.specs.State.{Attachment, Log, World, Device, noLog, configOf, read, flagOf, numberOf, stateOf, write}
-use Rattle.rules.specs.Guests.{Own, Part, own, part, replace, recordsOf, withRecordsOf, withRecords, withLog}
+use Rattle.rules.specs.Guests.{Part, own, part, replace, recordsOf, withRecordsOf, withRecords, withLog}
 use Rattle.rules.specs.Requests.{OK, INVAL, RANGE, NOENT, NOMEM}
-use Rattle.rules.specs.Handlers.{outside, isIn, exists, listed, attachmentOf, attachedAs, ofKey, without, leave, enter, moveFrom, attached, attachSteps, attach, detachSteps, detach, formSteps, recordSteps, mapSteps, addMapping, inside, straddles, unmapSteps, unmap}
+use Rattle.rules.specs.Handlers.{outside, isIn, exists, listed, attachmentOf, ofKey, without, leave, enter, moveFrom, attached, attachSteps, attach, detachSteps, detach, formSteps, recordSteps, mapSteps, addMapping, inside, straddles, unmapSteps, unmap}
 use Rattle.rules.specs.Access.{reset, logged, fetchedFrom}
 use Rattle.rules.specs.Sound.{guest, sound}
 use Rattle.rules.specs.Device.{ownerOf, is}
@@ -37,18 +37,18 @@ use Rattle.rules.proofs.Shares.{fits}
 use Rattle.rules.proofs.Writing.{kept, config-back, read-write}
 use Rattle.rules.proofs.Soundness.{write-sound}
 use Rattle.rules.proofs.Share.{room-within-share}
-use Rattle.rewriting.specs.Rewritten.{within}
+use Rattle.removal.specs.Removed.{within}
 use Rattle.logging.specs.Changes.{faultLogged}
 use Rattle.dropping.specs.Changes.{faultsDropped}
 use Rattle.resets.specs.Changes.{guestCleared}
 use Rattle.attachments.specs.Search.{indexOf}
-use Rattle.effects.specs.Flat.{device, Worked, worked, topAddress, placeOf, ownedAt, isAttached, domainAt, existsFlat, liveRecords, removed, inserted, left, entered, moved, firstOf, settled, attachStatus, attachFlat, detachStatus, detachFlat, formStatus, mapStatus, mapFlat, unmapStatus, unmapFlat, resetFlat}
+use Rattle.effects.specs.Flat.{device, worked, topAddress, placeOf, ownedAt, isAttached, existsFlat, liveRecords, removed, inserted, left, entered, moved, firstOf, settled, attachStatus, attachFlat, detachStatus, detachFlat, formStatus, mapStatus, mapFlat, unmapStatus, unmapFlat, resetFlat}
 use Rattle.effects.proofs.Flat.{with-kept, with-inserted, any-of}
 use Rattle.effects.proofs.Places.{owner-at, listed-owned}
 use Rattle.effects.proofs.Written.{withRecs, withLogs, exists-written, removed-written, inserted-written}
 use Rattle.effects.proofs.Leaving.{keep-agree, ends, attachments-same, records-same, replace-same, replace-records, left-written, entered-written, moved-on, attachment-here, flag-here, number-here, in-domain, of-key-mine}
 use Rattle.effects.proofs.Logs.{logged-written, dropped-written, cleared-written}
-use Rattle.effects.proofs.Statuses.{nonzero, first-append, settled-written}
+use Rattle.effects.proofs.Statuses.{first-append, settled-written}
 
 attachment-passes : (q : Attachment → Bool) (e : Endpoint) (es : List ℕ) (l : List Attachment) → q none ≡ true → all? q l ≡ true → q (attachmentOf e es l) ≡ true
 attachment-passes q e [] l z h = z

@@ -1,31 +1,30 @@
 -- Sound state and table, as the code has them, are what writing their world gives.
-use Prim.Native.Nat.{ℕ, zero, suc, _+_, _-_, _*_, _/_, _%_, _≤_, _<_}
+use Prim.Native.Nat.{ℕ, zero, _+_, _-_, _*_, _/_, _%_, _≤_, _<_}
 use mathlib.Core.Path.{_≡_, refl, sym, ap, subst, _∙_}
-use mathlib.Core.Bool.{Bool, true, false, cond, not, _&&_, _||_}
-use mathlib.Core.List.{List, [], _∷_, _++_}
-use mathlib.Core.Option.{Option, some, none}
+use mathlib.Core.Bool.{Bool, true, false, cond, not, _&&_}
+use mathlib.Core.List.{List, _++_}
+use mathlib.Core.Option.{none}
 use mathlib.Core.Logic.{_⊎_, inl, inr}
 use native.Mathlib.Omega.{arith}
 use lib.Dec.{leb, ltb, eqb}
 use lib.ListN.{length, getD, take, drop, replicate, length-take, length-drop, List·getD-eq-default}
-use lib.Seq.{ext-getD, getD-take, getD-drop, length-take-le}
-use borrow.Author.Tests.{ltb-true, ltb-false, leb-true, eqb-true, eqb-false, eq-eqb, lt-ltb, le-ltb}
-use Rattle.laws.specs.Lists.{all?, every?, below, tab, pad}
-use Rattle.laws.proofs.Tests.{both-left, both-right, true-false, or-cases, Each, opened}
+use lib.Seq.{getD-take, getD-drop, length-take-le}
+use borrow.Author.Tests.{ltb-true, ltb-false, leb-true, eqb-true, le-ltb}
+use Rattle.laws.specs.Lists.{below, tab, pad}
+use Rattle.laws.proofs.Tests.{both-left, both-right, or-cases, Each, opened}
 use Rattle.laws.proofs.Tables.{below-at, length-tab, getD-tab, tab-is, all-at, replicate-is}
 use Rattle.rules.specs.declared.State.{State}
-use Rattle.rules.specs.declared.Settings.{Settings}
 use Rattle.rules.specs.declared.Fault.{Fault}
 use Rattle.rules.specs.Sizes.{maxGuests, maxEndpoints, maxFaults, faultPlaces, recordWords, tableWords}
-use Rattle.rules.specs.Configuration.{Config, share, first, last}
+use Rattle.rules.specs.Configuration.{share, first, last}
 use Rattle.rules.specs.Table.{records, words, tableOf}
-use Rattle.rules.specs.State.{Attachment, Log, World, Device, noFault, noLog, configOf, attachment, attachmentAt, faultAt, logAt, read, trimmed, flagOf, numberOf, logOf, placed, stateOf, write}
+use Rattle.rules.specs.State.{Log, World, Device, noFault, noLog, configOf, attachment, attachmentAt, faultAt, logAt, read, trimmed, flagOf, numberOf, placed, stateOf}
 use Rattle.rules.specs.Handlers.{outside}
-use Rattle.rules.specs.Sound.{guest, attachmentGood, zeroFrom, faultZero, faultPlaceGood, unusedTests, soundTests, sound}
+use Rattle.rules.specs.Sound.{guest, attachmentGood, zeroFrom, faultZero, faultPlaceGood, unusedTests, sound}
 use Rattle.rules.proofs.Words.{length-records, words-split}
 use Rattle.effects.specs.Checked.{Shaped}
-use Rattle.rules.proofs.Worlds.{Good, Whole}
-use Rattle.rules.proofs.Reading.{tests, sound-good, sound-listed, sound-whole, log-read}
+use Rattle.rules.proofs.Worlds.{Good}
+use Rattle.rules.proofs.Reading.{tests, sound-good, sound-listed}
 
 pub zero-at : (n : ℕ) (l : List ℕ) (i : ℕ) → zeroFrom n l ≡ true → n ≤ i → i < length l → getD l i 0 ≡ 0
 unfolding zeroFrom

@@ -1,7 +1,7 @@
 -- The first failing step's status, as a chain of tests gives it.
-use Prim.Native.Nat.{ℕ, _<_}
-use mathlib.Core.Path.{_≡_, refl, sym, ap, _∙_}
-use mathlib.Core.Bool.{Bool, true, false, cond, not, _&&_}
+use Prim.Native.Nat.{ℕ}
+use mathlib.Core.Path.{_≡_, refl, ap}
+use mathlib.Core.Bool.{Bool, true, false, cond, not}
 use mathlib.Core.List.{List, [], _∷_, _++_}
 use mathlib.Core.Option.{Option, some, none}
 use native.Mathlib.Omega.{arith}
@@ -15,7 +15,7 @@ use Rattle.rules.specs.State.{World, Device, write}
 use Rattle.rules.specs.Guests.{Part, replace}
 use Rattle.rules.specs.Requests.{OK}
 use Rattle.rules.specs.Handlers.{Steps, settle}
-use Rattle.effects.specs.Flat.{Worked, worked, firstOf, settled}
+use Rattle.effects.specs.Flat.{worked, firstOf, settled}
 
 -- steps with statuses that are not OK
 abbrev pub nonzero : Bool × ℕ → Bool

@@ -1,34 +1,32 @@
 -- Each call on sound state and table, as the device's step has it, is what the arrays and words give.
-use Prim.Native.Nat.{ℕ, zero, suc, _+_, _-_, _*_, _/_, _%_, _≤_, _<_, min}
-use mathlib.Core.Path.{_≡_, refl, sym, ap, subst, _∙_}
-use mathlib.Core.Bool.{Bool, true, false, cond, not, _&&_, _||_}
-use mathlib.Core.List.{List, [], _∷_, _++_}
-use mathlib.Core.Option.{Option, some, none}
-use native.Mathlib.Omega.{arith}
-use lib.Dec.{leb, ltb, eqb}
-use lib.ListN.{length, getD, take, drop}
-use borrow.Author.Tests.{ltb-true, ltb-false, lt-ltb, le-ltb, eqb-true}
+use Prim.Native.Nat.{ℕ, suc, _-_, _<_}
+use mathlib.Core.Path.{_≡_, refl, sym, ap, _∙_}
+use mathlib.Core.Bool.{Bool, true, false, cond}
+use mathlib.Core.List.{List, [], _∷_}
+use mathlib.Core.Option.{some, none}
+use lib.Dec.{ltb, eqb}
+use lib.ListN.{length}
+use borrow.Author.Tests.{ltb-true}
 use Rattle.laws.specs.Lists.{firstFailing, tab}
 use Rattle.rules.specs.declared.Guest.{Guest}
 use Rattle.rules.specs.declared.State.{State}
 use Rattle.rules.specs.declared.Answer.{Answer}
 use Rattle.rules.specs.declared.Answer.the-variants.{Done, Served, NoSuchGuest, Unsound}
 use Rattle.rules.specs.Configuration.{Config}
-use Rattle.rules.specs.Table.{keyOf}
-use Rattle.rules.specs.State.{World, Device, configOf, read, write, trimmed}
+use Rattle.rules.specs.State.{World, Device, configOf, read, write}
 use Rattle.rules.specs.Guests.{Own, Part, own, part, replace}
 use Rattle.rules.specs.Requests.{ATTACH, DETACH, MAP, requestRefusals, typeOf, domainField, endpointField, attachReserved, virtStart, virtEnd, unmapReserved}
 use Rattle.rules.specs.Handlers.{attach, detach, addMapping, unmap, askedFor, handle}
 use Rattle.rules.specs.Access.{reset}
 use Rattle.rules.specs.Sound.{sound}
-use Rattle.rules.specs.Device.{Call, request, access-by, reset-of, fetch-for, Reply, refused, requested, rule, caller, numbered, work, step}
+use Rattle.rules.specs.Device.{Call, request, reset-of, refused, requested, rule, caller, numbered, work, step}
 use Rattle.rules.specs.Device as rules
-use Rattle.rules.proofs.Worlds.{Good, good-facts, Whole}
+use Rattle.rules.proofs.Worlds.{Whole}
 use Rattle.rules.proofs.Writing.{kept}
 use Rattle.rules.proofs.Reading.{sound-whole}
-use Rattle.layouts.specs.Parsed.{asked, parsed, unless, mapFields, unmapFields}
+use Rattle.layouts.specs.Parsed.{asked, mapFields, unmapFields}
 use Rattle.layouts.specs.declared.request.Request.the-variants.{Attach, Detach, Map, Unmap}
-use Rattle.effects.specs.Flat.{device, Worked, worked, attachFlat, detachFlat, mapFlat, unmapFlat, resetFlat}
+use Rattle.effects.specs.Flat.{Worked, worked, mapFlat, resetFlat}
 use Rattle.effects.specs.Serve.{recordOf, handled}
 use Rattle.effects.specs.Checked.{Shaped}
 use Rattle.effects.proofs.Shape.{settings-back, state-back, table-back}

@@ -1,7 +1,7 @@
 -- What each function of the code shows at its returns, as laws on states and words.
-use Prim.Native.Nat.{ℕ, suc, _+_, _*_, _-_}
-use mathlib.Core.Path.{_≡_, refl, sym, ap, _∙_}
-use mathlib.Core.Bool.{Bool, true, false, cond, not, _&&_}
+use Prim.Native.Nat.{ℕ, _+_, _*_, _-_}
+use mathlib.Core.Path.{_≡_, sym, ap, _∙_}
+use mathlib.Core.Bool.{Bool, true, false}
 use mathlib.Core.List.{List}
 use lib.Dec.{eqb}
 use lib.ListN.{length, getD}
@@ -13,7 +13,7 @@ use Rattle.rules.specs.declared.State.{State}
 use Rattle.rules.specs.Sizes.{domainSpan}
 use Rattle.rules.specs.Table.{keyOf}
 use Rattle.rules.specs.State.{Device}
-use Rattle.rewriting.specs.Rewritten.{keptOf, removedWords}
+use Rattle.removal.specs.Removed.{keptOf, removedWords}
 use Rattle.state.specs.Fields.{withLive}
 use Rattle.attachments.specs.Changes.{attachedAt}
 use Rattle.resets.specs.Changes.{guestCleared}

@@ -1,40 +1,35 @@
 -- Changes of the arrays and words that a world wrote are those that the changed world writes.
-use Prim.Native.Nat.{ℕ, zero, suc, _+_, _-_, _*_, _/_, _%_, _≤_, _<_, min}
-use mathlib.Core.Path.{_≡_, refl, sym, ap, subst, _∙_}
+use Prim.Native.Nat.{ℕ, zero, suc, _-_, _≤_, _<_, min}
+use mathlib.Core.Path.{_≡_, refl, sym, ap, _∙_}
 use mathlib.Core.Bool.{Bool, true, false, cond, not, _&&_, _||_}
-use mathlib.Core.List.{List, [], _∷_, _++_}
-use mathlib.Core.Option.{Option, some, none}
+use mathlib.Core.List.{List, [], _∷_}
+use mathlib.Core.Option.{some, none}
 use native.Mathlib.Omega.{arith}
-use lib.Dec.{leb, ltb, eqb}
-use lib.ListN.{length, getD, set, take, drop, replicate, length-set, length-append, length-drop, List·getD-eq-default, List·getD-append}
-use lib.Seq.{getD-set-same, getD-set-other, getD-drop, getD-append-seam}
-use borrow.Author.Tests.{ltb-true, ltb-false, leb-true, eqb-true, eqb-false, eq-eqb, ne-eqb, lt-ltb, le-ltb}
+use lib.Dec.{ltb, eqb}
+use lib.ListN.{length, getD, set, length-set, List·getD-eq-default}
+use lib.Seq.{getD-set-same, getD-set-other}
+use borrow.Author.Tests.{ltb-true, ltb-false, eqb-true, eqb-false}
 use Rattle.laws.specs.Lists.{any?, keep, tab, pickBy}
-use Rattle.laws.proofs.Tests.{either-way, both, both-left, both-right, true-false, or-cases, or-left, or-right, same-test}
-use Rattle.laws.proofs.Tables.{length-tab, getD-tab, tab-is, tab-same}
+use Rattle.laws.proofs.Tests.{both, both-left, both-right, true-false, or-left, or-right, same-test}
+use Rattle.laws.proofs.Tables.{length-tab, getD-tab, tab-is}
 use Rattle.rules.specs.declared.Guest.{Guest}
 use Rattle.rules.specs.declared.Domain.{Domain}
 use Rattle.rules.specs.declared.State.{State}
 use Rattle.rules.specs.declared.Mapping.{Mapping}
-use Rattle.rules.specs.declared.Fault.{Fault}
-use Rattle.rules.specs.Sizes.{maxGuests, maxEndpoints, maxRecords, maxFaults, maxLost, faultPlaces}
+use Rattle.rules.specs.Sizes.{maxEndpoints, maxRecords}
 use Rattle.rules.specs.Configuration.{Config}
 use Rattle.rules.specs.Table.{insert, records, tableOf}
-use Rattle.rules.specs.State.{Attachment, Log, World, Device, noFault, noLog, flagOf, numberOf, logOf, placed, trimmed, stateOf, write}
+use Rattle.rules.specs.State.{Attachment, Log, World, flagOf, numberOf, stateOf, write}
 use Rattle.rules.specs.Handlers.{isIn, exists}
-use Rattle.rules.specs.Access.{logged, fetchedFrom}
 use Rattle.rules.proofs.Worlds.{Good}
 use Rattle.rules.proofs.Records.{length-insert}
 use Rattle.rules.proofs.Words.{records-tableOf}
-use Rattle.rewriting.specs.Rewritten.{within, keptOf, insertedWords, removedWords}
-use Rattle.rewriting.proofs.Tables.{inserted-table, removed-table}
-use Rattle.state.specs.Fields.{withLive, withAttachments, withCounts, withFaults}
+use Rattle.removal.specs.Removed.{within, keptOf}
+use Rattle.insertion.proofs.Inserted.{inserted-table}
+use Rattle.removal.proofs.Removed.{removed-table}
 use Rattle.attachments.specs.Changes.{attachedAt}
-use Rattle.logging.specs.Changes.{faultStored, faultLogged}
-use Rattle.dropping.specs.Changes.{shifted, shiftedAll, faultsDropped}
-use Rattle.resets.specs.Changes.{zeroOf, zeroedOf, guestCleared}
 use Rattle.attachments.specs.Search.{anyBelow, belongs}
-use Rattle.effects.specs.Flat.{device, existsFlat, removed, inserted}
+use Rattle.effects.specs.Flat.{existsFlat, removed, inserted}
 
 -- a world with one thing changed
 abbrev pub withAtts : List Attachment → World → World

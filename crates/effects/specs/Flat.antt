@@ -1,12 +1,12 @@
 -- What each call does on the state's arrays and the table's words, as the code works it. The laws in proofs/ show that on sound
 -- state and table this is what document 01's rules give.
 use Prim.Native.Nat.{ℕ, suc, _+_, _-_, _*_, _/_, _%_, _^_, min}
-use mathlib.Core.Bool.{Bool, true, false, cond, not, _&&_, _||_}
+use mathlib.Core.Bool.{Bool, cond, not, _&&_, _||_}
 use mathlib.Core.List.{List, [], _∷_, _++_}
 use mathlib.Core.Option.{Option, some, none}
 use lib.Dec.{leb, ltb, eqb}
 use lib.ListN.{length, getD, take, drop}
-use Rattle.laws.specs.Lists.{any?, firstFailing, tab}
+use Rattle.laws.specs.Lists.{any?, tab}
 use Rattle.rules.specs.Sizes.{maxGuests, maxFaults, faultSize, domainSpan}
 use Rattle.rules.specs.declared.Guest.{Guest}
 use Rattle.rules.specs.declared.Endpoint.{Endpoint}
@@ -18,17 +18,17 @@ use Rattle.rules.specs.declared.Fault.{Fault}
 use Rattle.rules.specs.declared.Answer.{Answer}
 use Rattle.rules.specs.declared.Answer.the-variants.{Done, Served, Through, Fetched, NoSuchGuest, Unsound, UnknownType, WrongLength, BadConfiguration, UnknownEndpoint, Unattached, Unmapped}
 use Rattle.rules.specs.Configuration.{share, first, last}
-use Rattle.rules.specs.Table.{keyOf, mapping, records, overlap}
+use Rattle.rules.specs.Table.{keyOf, records, overlap}
 use Rattle.rules.specs.State.{Device, faultAt}
 use Rattle.rules.specs.Guests.{recordsOf}
 use Rattle.rules.specs.Requests.{OK, INVAL, RANGE, NOENT, FAULT, NOMEM}
 use Rattle.rules.specs.Handlers.{outside, granularity, straddles}
-use Rattle.rules.specs.Access.{lookup, faultOf, faultBytes, bytesOf}
-use Rattle.rewriting.specs.Rewritten.{insertedWords, keptOf, removedWords}
+use Rattle.rules.specs.Access.{lookup, faultOf, bytesOf}
+use Rattle.insertion.specs.Inserted.{insertedWords}
+use Rattle.removal.specs.Removed.{keptOf, removedWords}
 use Rattle.state.specs.Fields.{withLive}
 use Rattle.attachments.specs.Changes.{attachedAt}
 use Rattle.logging.specs.Changes.{faultLogged}
-use Rattle.dropping.specs.Changes.{faultsDropped}
 use Rattle.resets.specs.Changes.{guestCleared}
 use Rattle.attachments.specs.Search.{indexOf, anyBelow, belongs}
 
@@ -140,9 +140,9 @@ mapStatus d g dom r =
 unfoldable pub mapFlat : Device → Guest → Domain → Mapping → Worked
 mapFlat d g dom r = settled (mapStatus d g dom r) d (inserted d r)
 
--- the same where the mask has a lowest bit, and the guest and one record more have places, as in a sound device; else nothing is done
+-- the same where the guest and one record more have places, as in a sound device; else nothing is done
 unfoldable pub mapPlaced : Device → Guest → Domain → Mapping → Worked
-mapPlaced d g dom r = cond (ltb 0 (d .state .settings .mask) && (ltb (g .0) maxGuests && ltb (d .state .live) topAddress)) (mapFlat d g dom r) (worked OK d)
+mapPlaced d g dom r = cond (ltb (g .0) maxGuests && ltb (d .state .live) topAddress) (mapFlat d g dom r) (worked OK d)
 
 unfoldable pub unmapStatus : Device → Guest → Domain → ℕ → ℕ → ℕ → ℕ
 unmapStatus d g dom a b reserved =

@@ -1,5 +1,4 @@
 -- A parsed request, by its case.
-use Prim.Native.Nat.{ℕ}
 use Rattle.rules.specs.declared.Guest.{Guest}
 use Rattle.rules.specs.declared.Domain.{Domain}
 use Rattle.rules.specs.declared.Mapping.{Mapping}

@@ -1,13 +1,11 @@
-// ATTACH, DETACH and a guest's reset, on the state's arrays and the table's words.
-pub mod moves;
-
+// ATTACH and DETACH, on the state's arrays and the table's words.
 ghost use mathlib.Core.Path.{_≡_};
 ghost use mathlib.Core.Bool.{_&&_};
 ghost use mathlib.Core.List.{[], _∷_};
 ghost use lib.Dec.{ltb, eqb};
 ghost use lib.ListN.{getD};
 ghost use Rattle.rules.specs.Handlers.{outside};
-ghost use Rattle.effects.specs.Flat.{device, firstOf, attachStatus, attachFlat, detachStatus, detachFlat, resetFlat};
+ghost use Rattle.effects.specs.Flat.{device, firstOf, attachStatus, attachFlat, detachStatus, detachFlat};
 ghost use Rattle.effects.specs.Outcome.{outcome};
 use effects::Handled;
 use rules::Domain;
@@ -107,13 +105,4 @@ pub fn detach(s: State, t: &mut [u64], g: Guest, d: Domain, e: Endpoint, reserve
         status: 0,
         state: next,
     }
-}
-
-// Reset: the guest's endpoints detached, its records gone, its log empty, its lost count 0.
-pub fn reset(s: State, t: &mut [u64], g: Guest) -> State
-    ensures { λ r. ⌜ device r (now (t .exit)) ≡ resetFlat (device s (now (t .entry))) g ⌝ }
-{
-    let next = resets::clear_guest(s, g);
-    let low = (g.0 as u64) * 4294967296;
-    moves::remove(next, t, low, low + 4294967295, 0, moves::TOP_ADDRESS)
 }

@@ -43,6 +43,6 @@ pub(crate) fn put_faults(s: State, g: Guest, n: usize, buffer: &mut [u8])
         };
         let a = FAULT_SIZE * j;
         let e = a + FAULT_SIZE;
-        wire::fault::put_fault(&mut buffer[a..e], f);
+        fault_records::put_fault(&mut buffer[a..e], f);
     }
 }

@@ -7,8 +7,6 @@ use lib.ListN.{length, getD, take, drop}
 use Rattle.laws.specs.Bytes.{field}
 use Rattle.rules.specs.declared.Guest.{Guest}
 use Rattle.rules.specs.declared.Endpoint.{Endpoint}
-use Rattle.rules.specs.declared.InputRange.{InputRange}
-use Rattle.rules.specs.declared.DomainRange.{DomainRange}
 use Rattle.rules.specs.Sizes.{maxFaults}
 use Rattle.items.specs.declared.GuestFields.{GuestFields}
 use Rattle.items.specs.declared.StartFields.{StartFields}

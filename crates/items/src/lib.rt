@@ -2,7 +2,7 @@
 ghost use mathlib.Core.Path.{_≡_};
 ghost use Prim.Native.Nat.{_<_, _≤_};
 ghost use lib.ListN.{length};
-ghost use Rattle.items.specs.Items.{bodyLength, kindOf, sizeOf, guestFields, startFields, endpointAt, guestAt, taken};
+ghost use Rattle.items.specs.Items.{bodyLength, kindOf, sizeOf, guestFields, startFields, endpointAt, taken};
 ghost use Rattle.items.specs.Items as items;
 use rules::DomainRange;
 use rules::Endpoint;

@@ -1,21 +1,20 @@
 -- A record is the same however the journal goes on after it.
 use Prim.Native.Nat.{ℕ, suc, _+_, _-_, _≤_, _<_}
 use mathlib.Core.Path.{_≡_, refl, sym, ap, _∙_}
-use mathlib.Core.Bool.{Bool, true, false, cond, not, _&&_}
-use mathlib.Core.List.{List, [], _++_}
+use mathlib.Core.Bool.{Bool, true, false, cond}
+use mathlib.Core.List.{List, _++_}
 use native.Mathlib.Omega.{arith}
-use lib.Dec.{leb, ltb, eqb}
+use lib.Dec.{ltb, eqb}
 use lib.ListN.{length, getD, take, drop, length-drop, length-append, List·getD-append}
 use lib.Seq.{take-append-le, drop-append-le}
 use borrow.Author.Tests.{eqb-true, eqb-false, ltb-false, ne-eqb, le-ltb}
 use Rattle.laws.specs.Bytes.{le, field}
 use Rattle.laws.proofs.Tests.{either-way, true-false}
-use Rattle.rules.specs.Sizes.{maxFaults}
 use Rattle.items.specs.declared.Item.{Item}
 use Rattle.items.specs.declared.Item.the-variants.{Cut, Wrong, NamedGuest, NamedEndpoint, Start, Request, Access, Reset, Fetch}
 use Rattle.playing.specs.declared.player.Player.{Player}
-use Rattle.items.specs.Items.{GUEST, ENDPOINT, START, ACCESS, RESET, FETCH, bodyLength, kindOf, sizeOf, guestAt, endpointAt, guestFields, startFields, requestBytes, taken, front, Fits}
-use Rattle.playing.specs.Turns.{Turn, idle, turnOf, turn}
+use Rattle.items.specs.Items.{GUEST, ENDPOINT, START, ACCESS, RESET, FETCH, bodyLength, kindOf, sizeOf, requestBytes, taken, front, Fits}
+use Rattle.playing.specs.Turns.{turnOf, turn}
 use Rattle.turns.proofs.Reading.{works, front-fits}
 
 -- two choices by one test

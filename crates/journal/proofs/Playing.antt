@@ -1,8 +1,8 @@
 -- The loop over the records of a part: what has been worked so far, and the turns that carry it on and end it.
 use Prim.Native.Nat.{ℕ, _+_, _-_, _≤_, _<_}
 use mathlib.Core.Path.{_≡_, refl, sym, ap, _∙_}
-use mathlib.Core.Bool.{Bool, false}
-use mathlib.Core.List.{List, [], _++_, append-nil, append-assoc}
+use mathlib.Core.Bool.{false}
+use mathlib.Core.List.{List, _++_, append-nil, append-assoc}
 use native.Mathlib.Nat.{zero-add, add-zero, add-assoc}
 use native.Mathlib.Omega.{arith}
 use lib.ListN.{length, take, drop, length-append, length-drop, take-append-drop}
@@ -10,7 +10,7 @@ use lib.Seq.{length-take-le, take-append-add, drop-append-add, take-append-seam,
 use Rattle.printing.specs.Placing.{placed, fetchRoom}
 use Rattle.playing.specs.declared.player.Player.{Player}
 use Rattle.playing.specs.declared.player.Turned.{Turned}
-use Rattle.playing.specs.Turns.{Turn, turn, idle}
+use Rattle.playing.specs.Turns.{Turn, turn}
 use Rattle.journal.specs.Journal.{joined, played}
 use Rattle.playing.specs.Telling.{turned, Tells}
 use Rattle.journal.proofs.Repeating.{play-full, play-stop, play-step}

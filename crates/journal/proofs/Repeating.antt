@@ -1,6 +1,6 @@
 -- Records worked one after another: the steps of the loop.
-use Prim.Native.Nat.{ℕ, zero, suc, _+_, _-_, _≤_, _<_}
-use mathlib.Core.Path.{_≡_, refl, sym, ap, _∙_}
+use Prim.Native.Nat.{ℕ, zero, suc, _-_, _≤_, _<_}
+use mathlib.Core.Path.{_≡_, refl, ap}
 use mathlib.Core.Bool.{Bool, true, false, cond}
 use mathlib.Core.List.{List}
 use native.Mathlib.Omega.{arith}
@@ -9,7 +9,7 @@ use lib.ListN.{length, drop, length-drop}
 use borrow.Author.Tests.{eqb-false, ne-eqb, lt-ltb, le-ltb}
 use Rattle.printing.specs.Placing.{fetchRoom}
 use Rattle.playing.specs.declared.player.Player.{Player}
-use Rattle.playing.specs.Turns.{Turn, turn, idle}
+use Rattle.playing.specs.Turns.{turn, idle}
 use Rattle.journal.specs.Journal.{joined, playedFor, played}
 use Rattle.turns.proofs.Reading.{turn-reads}
 

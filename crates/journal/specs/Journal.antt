@@ -1,12 +1,12 @@
 -- What a whole journal prints, and what a part of it prints that is read into a buffer.
 use Prim.Native.Nat.{ℕ, zero, suc, _+_, _-_}
 use mathlib.Core.Path.{_≡_}
-use mathlib.Core.Bool.{Bool, true, false, cond}
-use mathlib.Core.List.{List, [], _∷_, _++_}
+use mathlib.Core.Bool.{false, cond}
+use mathlib.Core.List.{List, [], _++_}
 use lib.Dec.{ltb, eqb}
 use lib.ListN.{length, drop, replicate}
 use Rattle.rules.specs.Sizes.{tableWords}
-use Rattle.printing.specs.Plain.{badLine, endLine}
+use Rattle.plain_lines.specs.Plain.{badLine, endLine}
 use Rattle.printing.specs.Placing.{fetchRoom}
 use Rattle.playing.specs.declared.player.Player.{Player}
 use Rattle.playing.specs.Turns.{Turn, turn, fresh, idle}
@@ -27,10 +27,6 @@ outputFrom at p t s = outputFor (suc (length s)) at p t s
 -- what a journal prints: before its first record nothing is named, and the table is zero
 abbrev pub output : List ℕ → List ℕ
 output s = outputFrom 0 fresh (replicate tableWords 0) s
-
--- the last line of a journal that ends with n bytes, at offset `at`, which are no whole record
-abbrev pub lastLine : ℕ → ℕ → List ℕ
-lastLine n at = cond (eqb n 0) endLine (badLine at)
 
 -- the first record's turn, then what follows it
 abbrev pub joined : Turn → Turn → Turn

@@ -2,8 +2,7 @@
 ghost use Prim.Native.Nat.{_+_, _≤_};
 ghost use lib.ListN.{length};
 ghost use mathlib.Core.Path.{_≡_};
-ghost use Rattle.printing.specs.Placing.{lineRoom, written, writtenCount};
-ghost use Rattle.journal.specs.Journal.{played, lastLine};
+ghost use Rattle.journal.specs.Journal.{played};
 ghost use Rattle.playing.specs.Telling.{Tells};
 use playing::player::Player;
 use playing::player::Turned;
@@ -46,14 +45,4 @@ pub fn play(p: Player, t: &mut [u64], s: &[u8], out: &mut [u8]) -> Turned
         printed,
         bad: false,
     }
-}
-
-// The last line, where a journal ends with `left` bytes that are no whole record, the first of them at this offset.
-pub fn end(out: &mut [u8], left: usize, offset: u64) -> usize
-    ensures { λ r. ⌜ (r ≡ writtenCount lineRoom 0 (lastLine left offset) (now (out .entry))) × (now (out .exit) ≡ written lineRoom 0 (lastLine left offset) (now (out .entry))) ⌝ }
-{
-    if left == 0 {
-        return printing::put_end(out, 0);
-    }
-    printing::put_bad(out, 0, offset)
 }

@@ -1,13 +1,13 @@
 -- Laws of all?, any?, keep, find and pairwise.
-use Prim.Native.Nat.{ℕ, zero, suc, _+_, _≤_, _<_}
-use mathlib.Core.Path.{_≡_, refl, sym, ap, _∙_}
+use Prim.Native.Nat.{ℕ, zero, suc, _+_, _≤_}
+use mathlib.Core.Path.{_≡_, refl, sym, ap}
 use mathlib.Core.Bool.{Bool, true, false, cond, not, _&&_, _||_}
 use mathlib.Core.List.{List, [], _∷_, _++_}
-use mathlib.Core.Option.{Option, some, none}
+use mathlib.Core.Option.{some, none}
 use native.Mathlib.Omega.{arith}
 use lib.ListN.{length, drop}
 use Rattle.laws.specs.Lists.{all?, any?, keep, find, pairwise}
-use Rattle.laws.proofs.Tests.{both, both-left, both-right, true-false, or-left, or-right, nor, same-test}
+use Rattle.laws.proofs.Tests.{both, both-left, both-right, true-false}
 
 module _ {A : Type 0} (q : A → Bool) where
   pub all-imp : (r : A → Bool) (l : List A) → ((x : A) → q x ≡ true → r x ≡ true) → all? q l ≡ true → all? r l ≡ true

@@ -3,4 +3,5 @@ pub mod Filters
 pub mod Tables
 pub mod Turns
 pub mod Owners
+pub mod Owned
 pub mod Runs

@@ -1,5 +1,5 @@
 -- A user's part of a run is what that user's own calls alone give: an induction that knows nothing of the machine.
-use mathlib.Core.Path.{_≡_, refl, sym, ap, _∙_}
+use mathlib.Core.Path.{_≡_, refl, ap, _∙_}
 use mathlib.Core.Bool.{Bool, true, false, cond}
 use mathlib.Core.List.{List, [], _∷_}
 use Rattle.laws.specs.Lists.{keep}

@@ -1,3 +1,2 @@
-// The layouts of requests: the lengths of a request's two parts, and its fields.
-pub mod lengths;
+// The layouts of requests: the type and the fields of each.
 pub mod request;

@@ -1,5 +1,4 @@
 // A request taken apart.
-use crate::lengths;
 use rules::Answer;
 use rules::Domain;
 use rules::Endpoint;

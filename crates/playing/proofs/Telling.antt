@@ -11,7 +11,7 @@ use Rattle.rules.specs.Device.{Reply, SetUp}
 use Rattle.effects.specs.declared.Given.{Given}
 use Rattle.effects.specs.Checked.{replied}
 use Rattle.effects.specs.Setting.{started}
-use Rattle.printing.specs.Plain.{letterS, numberLine}
+use Rattle.plain_lines.specs.Plain.{letterS, numberLine}
 use Rattle.printing.proofs.Places.{placed-none}
 use Rattle.printing.specs.Placing.{placed, lineRoom, fetchRoom, written, writtenCount}
 use Rattle.playing.specs.declared.player.Player.{Player}

@@ -1,7 +1,7 @@
 -- What one record of a journal does and prints.
 use Prim.Native.Nat.{ℕ, _+_, _*_}
 use mathlib.Core.Bool.{Bool, true, false, cond, not, _&&_}
-use mathlib.Core.List.{List, [], _∷_}
+use mathlib.Core.List.{List, []}
 use lib.Dec.{leb, ltb}
 use lib.ListN.{replicate}
 use Rattle.rules.specs.Sizes.{maxGuests, maxEndpoints, faultSize}
@@ -9,9 +9,10 @@ use Rattle.rules.specs.declared.Guest.{Guest}
 use Rattle.rules.specs.declared.Endpoint.{Endpoint}
 use Rattle.rules.specs.declared.State.{State}
 use Rattle.rules.specs.State.{Device, configOf, zeroState}
-use Rattle.rules.specs.Device.{Call, Reply, SetUp, step, setUp, request, access-by, reset-of, fetch-for}
-use Rattle.printing.specs.Plain.{letterS, letterZ, numberLine}
-use Rattle.lines.specs.Lines.{requestLine, accessLine, fetchLines}
+use Rattle.rules.specs.Device.{Reply, SetUp, step, setUp, request, access-by, reset-of, fetch-for}
+use Rattle.plain_lines.specs.Plain.{letterS, letterZ, numberLine}
+use Rattle.lines.specs.Lines.{requestLine, accessLine}
+use Rattle.fetch_lines.specs.Lines.{fetchLines}
 use Rattle.items.specs.declared.GuestFields.{GuestFields}
 use Rattle.items.specs.declared.StartFields.{StartFields}
 use Rattle.items.specs.declared.Item.{Item}

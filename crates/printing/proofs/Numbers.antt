@@ -1,13 +1,10 @@
 -- Laws of numbers as text.
 use Prim.Native.Nat.{ℕ, zero, suc, _+_, _-_, _^_, _/_, _%_, _≤_, _<_}
 use mathlib.Core.Path.{_≡_, refl}
-use mathlib.Core.List.{List, [], _∷_, _++_}
+use mathlib.Core.List.{[], _∷_, _++_}
 use native.Mathlib.Nat.{pow-suc}
 use native.Mathlib.Omega.{arith}
 use borrow.Author.Tests.{lt-ltb, le-ltb}
-use Rattle.rules.specs.declared.Answer.{Answer}
-use Rattle.rules.specs.Answers.{number}
-use Rattle.rules.specs.declared.Answer.the-variants.{Done, Served, Through, Fetched, NoSuchGuest, Unsound, UnknownType, WrongLength, BadConfiguration, UnknownEndpoint, Unattached, Unmapped}
 use Rattle.printing.specs.Text.{digit, decimalUpTo, decimal, hexDigits}
 
 -- a number has no more digits than it is large
@@ -37,27 +34,9 @@ tenth n (suc j) h l =
     let f : suc j + 1 ≡ suc (suc j) = omega arith in
     (omega arith, rw e (omega (arith, pow-suc 10 (suc j), rw f at l)))
 
--- an answer's number has one digit
-pub number-small : (a : Answer) → number a ≤ 8
-number-small Done = omega arith
-number-small Served = omega arith
-number-small (Through x) = omega arith
-number-small (Fetched n) = omega arith
-number-small NoSuchGuest = omega arith
-number-small Unsound = omega arith
-number-small UnknownType = omega arith
-number-small WrongLength = omega arith
-number-small BadConfiguration = omega arith
-number-small UnknownEndpoint = omega arith
-number-small Unattached = omega arith
-number-small Unmapped = omega arith
-
 -- a number of one digit, with its digit in ASCII
 pub one-digit : (x : ℕ) → x < 10 → decimal x ≡ (48 + x) ∷ []
 one-digit x h = rw (decimal-one x h, lt-ltb x 10 h)
-
-pub number-text : (a : Answer) → decimal (number a) ≡ (48 + number a) ∷ []
-number-text a = one-digit (number a) (omega (arith, number-small a))
 
 -- the last of some hex digits
 pub hexDigits-next : (i n : ℕ) → 1 ≤ i → hexDigits i n ≡ hexDigits (i - 1) (n / 16) ++ (digit (n % 16) ∷ [])

@@ -1,8 +1,12 @@
--- Numbers as text, in ASCII.
+-- Numbers as text, and the end of a line, in ASCII.
 use Prim.Native.Nat.{ℕ, zero, suc, _+_, _/_, _%_}
 use mathlib.Core.Bool.{cond}
 use mathlib.Core.List.{List, [], _∷_, _++_}
 use lib.Dec.{ltb}
+
+-- what ends a line
+abbrev pub newline : ℕ
+newline = 10
 
 -- a digit below 16: 0 to 9, then a to f ("lowercase hex digits")
 abbrev pub digit : ℕ → ℕ

@@ -6,8 +6,7 @@ ghost use mathlib.Core.Path.{_≡_};
 ghost use mathlib.Core.List.{_∷_, [], _++_};
 ghost use Prim.Native.Nat.{_+_, _≤_, _<_};
 ghost use lib.ListN.{drop, length};
-ghost use Rattle.printing.specs.Text.{decimal};
-ghost use Rattle.printing.specs.Plain.{newline};
+ghost use Rattle.printing.specs.Text.{newline, decimal};
 ghost use Rattle.printing.specs.Placing.{written, writtenCount};
 
 // The text at the end of the bytes, from place `from` on.

@@ -2,8 +2,7 @@
 use crate::text::digit;
 ghost use mathlib.Core.Path.{_≡_};
 ghost use mathlib.Core.List.{_∷_, [], _++_};
-ghost use Rattle.printing.specs.Text.{address, hexBytes};
-ghost use Rattle.printing.specs.Plain.{newline};
+ghost use Rattle.printing.specs.Text.{newline, address, hexBytes};
 
 // An address in 16 hex digits and a newline.
 pub fn address_line(x: u64) -> [u8; 17]

@@ -1,8 +1,7 @@
-// Numbers as text, text put into a lent buffer, and the lines of a number, of a bad journal and of the end.
+// Numbers as text, and text put into a lent buffer.
 mod decimal;
 mod hex;
 mod placing;
-mod plain;
 mod text;
 
 pub use decimal::put_decimal;
@@ -10,7 +9,3 @@ pub use hex::address_line;
 pub use hex::hex_of;
 pub use placing::has_room;
 pub use placing::put_bytes;
-pub use plain::LINE_ROOM;
-pub use plain::put_bad;
-pub use plain::put_end;
-pub use plain::put_number;

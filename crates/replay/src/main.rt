@@ -30,7 +30,7 @@ fn print(out: &[u8], n: usize) -> bool {
 
 // Prints the last line, where `left` bytes are left that are no whole record.
 fn print_end(out: &mut [u8], left: usize, offset: u64) {
-    let n = play::end(out, left, offset);
+    let n = plain_lines::put_last(out, left, offset);
     print(out, n);
 }
 

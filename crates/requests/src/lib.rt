@@ -13,7 +13,6 @@ ghost use Rattle.effects.specs.Serve.{handled};
 ghost use Rattle.effects.specs.Checked.{Shaped, replied};
 use effects::Given;
 use effects::Handled;
-use endpoints::moves;
 use layouts::request::Request;
 use rules::Answer;
 use rules::Guest;
@@ -22,7 +21,7 @@ use rules::State;
 
 // The handler of a request's type.
 fn handle(s: State, t: &mut [u64], g: Guest, q: Request) -> Handled
-    requires { ⌜ (0 < s .settings .mask) × (g .0 < 4) × (s .live < 18446744073709551615) ⌝ }
+    requires { ⌜ (g .0 < 4) × (s .live < 18446744073709551615) ⌝ }
     ensures { λ r. ⌜ outcome r (now (t .exit)) ≡ handled (device s (now (t .entry))) g q ⌝ }
 {
     match q {
@@ -40,9 +39,9 @@ fn handle(s: State, t: &mut [u64], g: Guest, q: Request) -> Handled
                 phys: f.phys,
                 flags: f.flags,
             };
-            mappings::map(s, t, g, d, r)
+            mapping::map(s, t, g, d, r)
         }
-        Request::Unmap(d, f) => mappings::unmap(s, t, g, d, f.start, f.end, f.reserved),
+        Request::Unmap(d, f) => unmapping::unmap(s, t, g, d, f.start, f.end, f.reserved),
     }
 }
 

@@ -26,7 +26,7 @@ pub fn reset(s: State, t: &mut [u64], g: Guest) -> Given
             state: s,
         };
     }
-    let next = endpoints::reset(s, t, g);
+    let next = moves::reset(s, t, g);
     Given {
         answer: Answer::Done,
         state: next,

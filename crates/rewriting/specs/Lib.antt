@@ -1,1 +1,1 @@
-pub mod Rewritten
+pub mod Stored

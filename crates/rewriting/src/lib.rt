@@ -1,8 +1,4 @@
-// What rewrites the mapping table's words: a record put in, records taken out, all words made zero.
-mod insertion;
+// A record written into the mapping table's words.
 mod record;
-mod removal;
 
-pub use insertion::insert;
-pub use removal::clear;
-pub use removal::remove;
+pub use record::write;

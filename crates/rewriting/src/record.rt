@@ -1,11 +1,11 @@
 // One record written.
 ghost use mathlib.Core.Path.{_≡_};
 ghost use mathlib.Core.List.{_++_};
-ghost use Prim.Native.Nat.{_+_, _<_, _≤_};
+ghost use Prim.Native.Nat.{_+_, _≤_};
 ghost use lib.ListN.{length, set};
 ghost use Rattle.rules.specs.Table.{records, words};
 ghost use Rattle.table.specs.Records.{spare};
-ghost use Rattle.rewriting.specs.Rewritten.{stored};
+ghost use Rattle.rewriting.specs.Stored.{stored};
 use rules::Mapping;
 use table::RECORD_WORDS;
 
@@ -21,10 +21,11 @@ fn store(t: &mut [u64], at: usize, r: Mapping)
     t[at + 4] = r.flags;
 }
 
-// The table with r as record i.
-pub(crate) fn write(t: &mut [u64], i: usize, r: Mapping)
-    requires { ⌜ i < length (records (now t)) ⌝ }
+// The table with r as record i, where it has one.
+pub fn write(t: &mut [u64], i: usize, r: Mapping)
     ensures { λ _. ⌜ now (t .exit) ≡ words (set (records (now (t .entry))) i r) ++ spare (now (t .entry)) ⌝ }
 {
-    store(t, RECORD_WORDS * i, r)
+    if i < t.len() / RECORD_WORDS {
+        store(t, RECORD_WORDS * i, r);
+    }
 }

@@ -1,13 +1,13 @@
 -- An access lands in its owner's window, and goes through exactly when a live record permits it.
 use Prim.Native.Nat.{ℕ, zero, suc, _+_, _-_, _/_, _≤_, _<_}
-use mathlib.Core.Path.{_≡_, refl, sym, ap, subst, _∙_}
-use mathlib.Core.Bool.{Bool, true, false, cond, not, _&&_, _||_}
+use mathlib.Core.Path.{_≡_, refl, sym, ap, _∙_}
+use mathlib.Core.Bool.{Bool, true, false, cond, not, _&&_}
 use mathlib.Core.List.{List, [], _∷_}
 use mathlib.Core.Option.{Option, some, none}
 use native.Mathlib.Omega.{arith}
-use lib.Dec.{leb, ltb, eqb}
+use lib.Dec.{leb, eqb}
 use lib.ListN.{length, getD}
-use borrow.Author.Tests.{ltb-false, leb-true, eqb-true, eq-eqb, le-leb, not-true}
+use borrow.Author.Tests.{leb-true, eqb-true, eq-eqb, le-leb, not-true}
 use Rattle.laws.specs.Lists.{all?, find, pairwise}
 use Rattle.laws.proofs.Tests.{both, both-left, both-right, true-false, nor, Clear}
 use Rattle.laws.proofs.Filters.{found, found-passes, find-keep}
@@ -23,15 +23,15 @@ use Rattle.rules.specs.Answers.{number, addressOf}
 use Rattle.rules.specs.Configuration.{Config}
 use Rattle.rules.specs.Table.{keyOf, mapping, overlap, guestOf}
 use Rattle.rules.specs.State.{Attachment, World, Device, configOf, read}
-use Rattle.rules.specs.Guests.{Own, Part, own, part, recordsOf}
-use Rattle.rules.specs.Handlers.{outside, isIn, exists, attachmentOf, ofKey, formSteps}
-use Rattle.rules.specs.Access.{hasFlag, permits, blocked, translated, lookup, decided, access, faultOf}
+use Rattle.rules.specs.Guests.{Own, Part, own, part}
+use Rattle.rules.specs.Handlers.{outside, attachmentOf, ofKey, formSteps}
+use Rattle.rules.specs.Access.{hasFlag, permits, blocked, translated, lookup, decided, access}
 use Rattle.rules.specs.Sound.{sound}
-use Rattle.rules.specs.Device.{Call, access-by, Reply, rule, caller, owns, is, step}
-use Rattle.rules.specs.Claims.{WithinWindow, Permitting, attachedTo, GoesTo, OnlyWhenPermitted, WheneverPermitted}
+use Rattle.rules.specs.Device.{access-by, Reply, rule, caller, owns, is, step}
+use Rattle.rules.specs.Claims.{Permitting, attachedTo, GoesTo}
 use Rattle.rules.proofs.Records.{apart, mine, key-guest}
 use Rattle.rules.proofs.Parts.{Facts, inRange, recordOk, record-form, outside-high}
-use Rattle.rules.proofs.Worlds.{Good, good-facts, Whole, caller-below, step-mine, stepWorld}
+use Rattle.rules.proofs.Worlds.{good-facts, Whole, caller-below, step-mine}
 use Rattle.rules.proofs.Reading.{sound-whole}
 use Rattle.rules.proofs.Steps.{reply-of}
 

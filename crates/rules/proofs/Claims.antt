@@ -1,5 +1,5 @@
 -- The claims of specs/Claims.antt, proved.
-use Prim.Native.Nat.{ℕ, zero, suc, _+_, _<_}
+use Prim.Native.Nat.{ℕ, _+_, _<_}
 use mathlib.Core.Path.{_≡_, refl, sym, ap, subst, _∙_}
 use mathlib.Core.Bool.{Bool, true, false, cond, not}
 use mathlib.Core.List.{List, [], _∷_}
@@ -7,27 +7,26 @@ use mathlib.Core.Option.{Option, some, none}
 use native.Mathlib.Omega.{arith}
 use lib.Dec.{eqb}
 use lib.ListN.{length}
-use borrow.Author.Tests.{eqb-false, eq-eqb, not-false}
+use borrow.Author.Tests.{eqb-false, eq-eqb}
 use Rattle.laws.specs.Lists.{keep}
 use Rattle.laws.specs.Runs.{after, given, every}
 use Rattle.laws.proofs.Runs.{view-after, given-alone, kept-after}
-use Rattle.laws.proofs.Tests.{true-false}
 use Rattle.rules.specs.declared.Guest.{Guest}
 use Rattle.rules.specs.declared.Endpoint.{Endpoint}
 use Rattle.rules.specs.declared.Answer.the-variants.{Done, NoSuchGuest}
 use Rattle.rules.specs.Answers.{number}
 use Rattle.rules.specs.Configuration.{Config, good}
-use Rattle.rules.specs.State.{World, Device, configOf, read, write, start}
-use Rattle.rules.specs.Guests.{Own, Part, own, part}
+use Rattle.rules.specs.State.{World, Device, read, write, start}
+use Rattle.rules.specs.Guests.{own, part}
 use Rattle.rules.specs.Access.{access}
 use Rattle.rules.specs.Sound.{sound}
 use Rattle.rules.specs.Device.{Call, access-by, Reply, refused, rule, caller, owns, is, numbered, work, step, setUp}
-use Rattle.rules.specs.History.{takenOver, mappedOver}
+use Rattle.rules.specs.History.{mappedOver}
 use Rattle.rules.specs.Claims.{holds, Apart, GuestsApart, WithinWindow, AccessesStayInside, HeldIsHistory, SetUpIsSound, CallsKeepSound, NeverUnsound, OnlyWhenPermitted, WheneverPermitted}
 use Rattle.rules.proofs.Worlds.{good-facts, Whole, caller-below, workedWorld, stepWorld, step-keeps, step-other, step-mine}
 use Rattle.rules.proofs.Writing.{read-write}
 use Rattle.rules.proofs.Soundness.{write-sound}
-use Rattle.rules.proofs.Steps.{reply-of, step-sound, step-write, after-write, given-write, set-up-good, set-up-write, set-up-whole}
+use Rattle.rules.proofs.Steps.{step-sound, step-write, after-write, given-write, set-up-write, set-up-whole}
 use Rattle.rules.proofs.History.{held-over}
 use Rattle.rules.proofs.Access.{access-lands, only-when, whenever}
 use Rattle.rules.proofs.Share.{rule-number}

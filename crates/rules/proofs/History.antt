@@ -1,14 +1,14 @@
 -- Records held are those mapped less those taken away.
-use Prim.Native.Nat.{ℕ, zero, suc, _+_, _<_}
+use Prim.Native.Nat.{ℕ, _+_, _<_}
 use mathlib.Core.Path.{_≡_, refl, sym, ap, _∙_}
 use mathlib.Core.Bool.{Bool, true, false, cond, not, _&&_}
-use mathlib.Core.List.{List, [], _∷_, _++_}
+use mathlib.Core.List.{List, [], _∷_}
 use mathlib.Core.Option.{Option, some, none}
 use native.Mathlib.Omega.{arith}
 use lib.Dec.{eqb}
-use lib.ListN.{length, getD}
-use borrow.Author.Tests.{eqb-true, eq-eqb, ne-eqb, not-true}
-use Rattle.laws.specs.Lists.{all?, keep, firstFailing}
+use lib.ListN.{length}
+use borrow.Author.Tests.{eqb-true, not-true}
+use Rattle.laws.specs.Lists.{keep, firstFailing}
 use Rattle.laws.specs.Runs.{after}
 use Rattle.laws.proofs.Tests.{failing-among}
 use Rattle.laws.proofs.Filters.{keep-same, split}
@@ -17,17 +17,16 @@ use Rattle.rules.specs.declared.Endpoint.{Endpoint}
 use Rattle.rules.specs.declared.Domain.{Domain}
 use Rattle.rules.specs.declared.Mapping.{Mapping}
 use Rattle.rules.specs.declared.Answer.{Answer}
-use Rattle.rules.specs.declared.Answer.the-variants.{Unattached, Unmapped}
 use Rattle.rules.specs.Answers.{usedLength}
 use Rattle.rules.specs.Configuration.{Config}
 use Rattle.rules.specs.Table.{keyOf, insert}
 use Rattle.rules.specs.State.{Attachment, World, Device, read, write}
 use Rattle.rules.specs.Guests.{Own, Part, own, part, withRecords}
 use Rattle.rules.specs.Requests.{OK, ATTACH, DETACH, MAP, requestRefusals, typeOf, domainField, endpointField, attachReserved, virtStart, virtEnd, unmapReserved}
-use Rattle.rules.specs.Handlers.{settle, isIn, exists, attachmentOf, attachedAs, ofKey, without, leave, enter, moveFrom, attached, attachSteps, attach, detachSteps, detach, formSteps, recordSteps, mapSteps, addMapping, inside, unmapSteps, unmap, askedFor, handle}
-use Rattle.rules.specs.Access.{lookup, blocked, translated, decided, access, reset, faultOf}
+use Rattle.rules.specs.Handlers.{settle, isIn, attachmentOf, without, leave, enter, moveFrom, attached, attachSteps, attach, detachSteps, detach, formSteps, mapSteps, addMapping, inside, unmapSteps, unmap, askedFor, handle}
+use Rattle.rules.specs.Access.{lookup, blocked, translated, decided, access, reset}
 use Rattle.rules.specs.Sound.{passes}
-use Rattle.rules.specs.Device.{Call, request, access-by, reset-of, fetch-for, Reply, requested, rule, owns, step}
+use Rattle.rules.specs.Device.{Call, request, access-by, reset-of, fetch-for, requested, rule, owns, step}
 use Rattle.rules.specs.History.{goneWithDomain, goneByMove, goneByRequest, gone, taken, mapped, takenOver, mappedOver}
 use Rattle.rules.proofs.Records.{length-insert}
 use Rattle.rules.proofs.Worlds.{Whole, stepWorld, step-keeps, step-other, step-mine}

@@ -1,23 +1,23 @@
 -- The configuration as a state holds it says the same as the one that set-up was given.
-use Prim.Native.Nat.{ℕ, _+_, _≤_, _<_}
-use mathlib.Core.Path.{_≡_, refl, sym, ap, _∙_}
-use mathlib.Core.Bool.{Bool, true, false, cond, not, _&&_}
-use mathlib.Core.List.{List, [], _∷_}
+use Prim.Native.Nat.{ℕ, _≤_, _<_}
+use mathlib.Core.Path.{_≡_, refl, _∙_}
+use mathlib.Core.Bool.{Bool, true, false, cond, not}
+use mathlib.Core.List.{List}
 use native.Mathlib.Omega.{arith}
-use lib.Dec.{leb, ltb, eqb}
-use lib.ListN.{length, getD}
-use borrow.Author.Tests.{lt-ltb, leb-true, le-leb}
-use Rattle.laws.specs.Lists.{below, sumBelow, tab, every?}
+use lib.Dec.{leb, ltb}
+use lib.ListN.{getD}
+use borrow.Author.Tests.{lt-ltb}
+use Rattle.laws.specs.Lists.{below, sumBelow, tab}
 use Rattle.laws.proofs.Tests.{both, both-left, both-right, opened, closed}
 use Rattle.laws.proofs.Tables.{below-at, below-all, getD-tab, tab-same, sum-same}
 use Rattle.rules.specs.declared.Guest.{Guest}
 use Rattle.rules.specs.declared.Settings.{Settings}
-use Rattle.rules.specs.Sizes.{maxGuests, maxRecords}
+use Rattle.rules.specs.Sizes.{maxGuests}
 use Rattle.rules.specs.Configuration.{Config, share, first, last, shareAddress, settingsTests, goodSettings, goodLists, good}
 use Rattle.rules.specs.State.{World, trimmed, stateOf, write, start}
-use Rattle.rules.specs.Guests.{own, part}
+use Rattle.rules.specs.Guests.{own}
 use Rattle.rules.specs.Sound.{guest}
-use Rattle.rules.proofs.Worlds.{Good, good-facts, Whole}
+use Rattle.rules.proofs.Worlds.{good-facts}
 use Rattle.rules.proofs.Writing.{kept}
 
 module _ (s : Settings) (few : s .guests ≤ maxGuests) where

@@ -1,5 +1,5 @@
 -- What soundness asks of one guest's part, and that the guest's rules keep it.
-use Prim.Native.Nat.{ℕ, zero, suc, _+_, _-_, _*_, _/_, _%_, _≤_, _<_}
+use Prim.Native.Nat.{ℕ, suc, _+_, _-_, _/_, _≤_, _<_}
 use mathlib.Core.Path.{_≡_, refl, sym, ap, _∙_}
 use mathlib.Core.Bool.{Bool, true, false, cond, not, _&&_, _||_}
 use mathlib.Core.List.{List, [], _∷_, _++_}
@@ -7,10 +7,10 @@ use mathlib.Core.Option.{Option, some, none}
 use native.Mathlib.Nat.{le-trans}
 use native.Mathlib.Omega.{arith}
 use lib.Dec.{leb, ltb, eqb}
-use lib.ListN.{length, drop, take, replicate, length-append, length-drop, length-replicate}
-use borrow.Author.Tests.{ltb-true, ltb-false, leb-true, leb-false, eqb-true, eqb-false, eq-eqb, ne-eqb, lt-ltb, le-leb, not-true, not-false}
+use lib.ListN.{length, drop, replicate, length-append, length-drop, length-replicate}
+use borrow.Author.Tests.{ltb-true, ltb-false, leb-true, leb-false, eqb-true, eq-eqb, lt-ltb, le-leb, not-true, not-false}
 use Rattle.laws.specs.Lists.{all?, any?, keep, every?, pairwise, firstFailing}
-use Rattle.laws.proofs.Tests.{either-way, both, both-left, both-right, true-false, or-left, nor, Each, opened, closed, Clear, cleared, passed, clear-left, clear-right}
+use Rattle.laws.proofs.Tests.{either-way, both, both-left, both-right, true-false, nor, opened, closed, Clear, cleared, passed, clear-left, clear-right}
 use Rattle.laws.proofs.Filters.{all-imp, all-append, all-drop, all-keep, none-passes, length-keep, pairwise-keep}
 use Rattle.rules.specs.declared.Endpoint.{Endpoint}
 use Rattle.rules.specs.declared.Domain.{Domain}
@@ -20,13 +20,13 @@ use Rattle.rules.specs.declared.Answer.{Answer}
 use Rattle.rules.specs.declared.Answer.the-variants.{Unattached, Unmapped}
 use Rattle.rules.specs.Sizes.{domainSpan, maxFaults, maxLost}
 use Rattle.rules.specs.Table.{keyOf, guestOf, domainOf, before, overlap, insert}
-use Rattle.rules.specs.State.{Attachment, Log, noLog}
+use Rattle.rules.specs.State.{Attachment, Log}
 use Rattle.rules.specs.Guests.{Own, Part, withRecords, withLog}
 use Rattle.rules.specs.Requests.{requestRefusals, typeOf, ATTACH, DETACH, MAP, domainField, endpointField, attachReserved, virtStart, virtEnd, unmapReserved}
-use Rattle.rules.specs.Handlers.{Steps, settle, outside, isIn, exists, listed, attachmentOf, attachedAs, ofKey, without, leave, enter, moveFrom, attached, attachSteps, attach, detachSteps, detach, formSteps, recordSteps, mapSteps, addMapping, inside, unmapSteps, unmap, askedFor, handle}
-use Rattle.rules.specs.Access.{flagFor, logged, faultOf, blocked, translated, lookup, decided, access, reset, fetchable, fetchedFrom}
+use Rattle.rules.specs.Handlers.{Steps, settle, outside, isIn, exists, listed, attachmentOf, attachedAs, ofKey, without, leave, enter, moveFrom, attached, attachSteps, attach, detachSteps, detach, formSteps, recordSteps, mapSteps, addMapping, unmapSteps, unmap, askedFor, handle}
+use Rattle.rules.specs.Access.{logged, faultOf, blocked, translated, lookup, decided, access, reset, fetchable, fetchedFrom}
 use Rattle.rules.specs.Sound.{passes, faultGood}
-use Rattle.rules.specs.Device.{Call, request, access-by, reset-of, fetch-for, Reply, requested, rule}
+use Rattle.rules.specs.Device.{Call, request, access-by, reset-of, fetch-for, requested, rule}
 use Rattle.rules.proofs.Records.{key-guest, key-domain, key-back, wide, apart, mine, all-insert, length-insert, insert-ordered, insert-apart}
 use Rattle.rules.proofs.Attachments.{length-attachedAs, all-attachedAs, exists-attachedAs, detached, in-one, all-none}
 

@@ -1,16 +1,16 @@
 -- Sound state and table hold a whole world.
-use Prim.Native.Nat.{ℕ, zero, suc, _+_, _-_, _*_, _/_, _%_, _≤_, _<_}
+use Prim.Native.Nat.{ℕ, _+_, _-_, _*_, _/_, _%_, _≤_, _<_}
 use mathlib.Core.Path.{_≡_, refl, sym, ap, subst, _∙_}
-use mathlib.Core.Bool.{Bool, true, false, cond, not, _&&_, _||_}
-use mathlib.Core.List.{List, [], _∷_}
-use mathlib.Core.Option.{Option, some, none}
+use mathlib.Core.Bool.{Bool, true, false, cond, not, _&&_}
+use mathlib.Core.List.{List}
+use mathlib.Core.Option.{some, none}
 use mathlib.Core.Logic.{_⊎_, inl, inr}
 use native.Mathlib.Omega.{arith}
 use lib.Dec.{leb, ltb, eqb}
 use lib.ListN.{length, getD}
-use borrow.Author.Tests.{ltb-true, leb-true, eqb-true, eq-eqb, lt-ltb, le-leb}
+use borrow.Author.Tests.{leb-true, eqb-true, lt-ltb, le-leb}
 use Rattle.laws.specs.Lists.{all?, tab, pickBy, pairwise, keep}
-use Rattle.laws.proofs.Tests.{both, both-left, both-right, true-false, or-cases, Each, opened, closed}
+use Rattle.laws.proofs.Tests.{both, both-left, both-right, or-cases, Each, opened, closed}
 use Rattle.laws.proofs.Filters.{all-imp, all-keep, all-kept, pairwise-keep}
 use Rattle.laws.proofs.Tables.{below-at, length-tab, getD-tab, all-tab}
 use Rattle.laws.proofs.Owners.{owner-among, all-pickBy, length-pickBy}
@@ -19,12 +19,12 @@ use Rattle.rules.specs.declared.Mapping.{Mapping}
 use Rattle.rules.specs.Sizes.{maxGuests, maxFaults, faultPlaces}
 use Rattle.rules.specs.Configuration.{Config}
 use Rattle.rules.specs.Table.{guestOf, domainOf, before}
-use Rattle.rules.specs.State.{Attachment, World, Device, noLog, configOf, attachment, attachmentAt, faultAt, logAt, read}
+use Rattle.rules.specs.State.{World, Device, noLog, configOf, attachment, attachmentAt, faultAt, logAt, read}
 use Rattle.rules.specs.Guests.{own, part}
 use Rattle.rules.specs.Handlers.{outside, isIn, exists}
-use Rattle.rules.specs.Sound.{guest, recordGood, attachmentGood, faultGood, faultZero, faultPlaceGood, soundTests, sound}
+use Rattle.rules.specs.Sound.{guest, recordGood, attachmentGood, faultGood, faultPlaceGood, soundTests, sound}
 use Rattle.rules.proofs.Records.{apart, mine}
-use Rattle.rules.proofs.Parts.{Facts, inRange, recordOk, record-exists, logTests, logOk}
+use Rattle.rules.proofs.Parts.{inRange, recordOk, record-exists, logTests, logOk}
 use Rattle.rules.proofs.Worlds.{Good, good-facts, Whole}
 
 module _ (d : Device) (h : sound d ≡ true) where

@@ -1,21 +1,20 @@
 -- The order of records, a record put in, and one guest's records taken out and put back.
-use Prim.Native.Nat.{ℕ, zero, suc, _+_, _-_, _*_, _/_, _%_, _≤_, _<_}
+use Prim.Native.Nat.{ℕ, suc, _+_, _-_, _*_, _/_, _%_, _<_}
 use mathlib.Core.Path.{_≡_, refl, sym, ap, _∙_}
-use mathlib.Core.Bool.{Bool, true, false, cond, not, _&&_, _||_}
+use mathlib.Core.Bool.{Bool, true, false, cond, not, _&&_}
 use mathlib.Core.List.{List, [], _∷_, _++_, append-nil}
 use mathlib.Core.Logic.{_⊎_, inl, inr}
 use native.Mathlib.Omega.{arith}
 use lib.Dec.{leb, ltb, eqb}
 use lib.ListN.{length}
-use borrow.Author.Tests.{ltb-true, ltb-false, leb-true, leb-false, eqb-true, eqb-false, eq-eqb, ne-eqb, lt-ltb, le-ltb, le-leb, not-true}
-use Rattle.laws.specs.Lists.{all?, any?, keep, pairwise}
-use Rattle.laws.proofs.Tests.{both, both-left, both-right, true-false, or-cases, or-left, or-right, same-test}
+use borrow.Author.Tests.{ltb-true, ltb-false, eqb-true, eqb-false, eq-eqb, ne-eqb, lt-ltb, le-leb}
+use Rattle.laws.specs.Lists.{all?, keep, pairwise}
+use Rattle.laws.proofs.Tests.{both, both-left, both-right, true-false, or-cases, or-right, same-test}
 use Rattle.laws.proofs.Filters.{all-imp, all-append, all-keep, all-kept, keep-all, keep-none, keep-append, keep-keep, pairwise-keep, pairwise-append}
 use Rattle.rules.specs.declared.Guest.{Guest}
-use Rattle.rules.specs.declared.Domain.{Domain}
 use Rattle.rules.specs.declared.Mapping.{Mapping}
 use Rattle.rules.specs.Sizes.{domainSpan}
-use Rattle.rules.specs.Table.{keyOf, guestOf, domainOf, before, overlap, insert}
+use Rattle.rules.specs.Table.{guestOf, before, overlap, insert}
 use Rattle.rules.specs.Guests.{recordsOf, withRecordsOf}
 
 -- the key names its guest and its domain

@@ -1,13 +1,13 @@
 -- NOMEM comes from the guest's share alone, and within its share a guest finds room in the table.
 use Prim.Native.Nat.{ℕ, zero, suc, _+_, _≤_, _<_}
-use mathlib.Core.Path.{_≡_, refl, sym, ap, subst, _∙_}
-use mathlib.Core.Bool.{Bool, true, false, cond, not, _&&_}
-use mathlib.Core.List.{List, [], _∷_, _++_}
+use mathlib.Core.Path.{_≡_, refl, sym, ap, _∙_}
+use mathlib.Core.Bool.{Bool, true, false, cond, not}
+use mathlib.Core.List.{List, [], _∷_}
 use mathlib.Core.Option.{Option, some, none}
 use native.Mathlib.Omega.{arith}
 use lib.Dec.{leb, eqb}
 use lib.ListN.{length, getD}
-use borrow.Author.Tests.{eqb-true, eqb-false, eq-eqb, leb-true, not-true}
+use borrow.Author.Tests.{eqb-true, eqb-false, leb-true, not-true}
 use Rattle.laws.specs.Lists.{all?, any?, sumBelow, firstFailing}
 use Rattle.laws.proofs.Tests.{true-false, failing-among, failing-late}
 use Rattle.laws.proofs.Tables.{sum-le}
@@ -17,18 +17,17 @@ use Rattle.rules.specs.declared.Endpoint.{Endpoint}
 use Rattle.rules.specs.declared.Mapping.{Mapping}
 use Rattle.rules.specs.declared.Answer.{Answer}
 use Rattle.rules.specs.declared.Answer.the-variants.{NoSuchGuest}
-use Rattle.rules.specs.Sizes.{maxRecords}
 use Rattle.rules.specs.Answers.{number, usedLength}
 use Rattle.rules.specs.Configuration.{Config, share}
 use Rattle.rules.specs.Table.{keyOf, overlap}
 use Rattle.rules.specs.State.{Attachment, World, Device, configOf, read}
 use Rattle.rules.specs.Guests.{Own, Part, own, part, recordsOf, withRecords}
-use Rattle.rules.specs.Requests.{OK, INVAL, NOMEM, ATTACH, DETACH, MAP, requestRefusals, typeOf, domainField, endpointField, attachReserved, virtStart, virtEnd, unmapReserved}
+use Rattle.rules.specs.Requests.{INVAL, NOMEM, ATTACH, DETACH, MAP, requestRefusals, typeOf, domainField, endpointField, attachReserved, virtStart, virtEnd, unmapReserved}
 use Rattle.rules.specs.Handlers.{Steps, settle, attached, leave, attachSteps, attach, detachSteps, detach, formSteps, recordSteps, mapSteps, addMapping, inside, without, unmapSteps, unmap, askedFor, handle}
-use Rattle.rules.specs.Access.{translated, blocked, decided, access, lookup, faultOf}
+use Rattle.rules.specs.Access.{translated, blocked, decided, access}
 use Rattle.rules.specs.Sound.{sound, guest}
 use Rattle.rules.specs.Device.{Call, request, access-by, reset-of, fetch-for, Reply, refused, requested, rule, caller, numbered, work, step}
-use Rattle.rules.specs.Claims.{holds, NoMemOnlyByShare, RoomWithinShare}
+use Rattle.rules.specs.Claims.{NoMemOnlyByShare, RoomWithinShare}
 use Rattle.rules.proofs.Worlds.{Whole, workedWorld, stepWorld}
 use Rattle.rules.proofs.Shares.{records-sum, shares-sum}
 use Rattle.rules.proofs.Reading.{sound-whole}

@@ -1,14 +1,13 @@
 -- The records of all guests together are within the shares' sum, so the table has room whenever a share has.
-use Prim.Native.Nat.{ℕ, zero, suc, _+_, _≤_, _<_}
+use Prim.Native.Nat.{ℕ, zero, suc, _≤_, _<_}
 use mathlib.Core.Path.{_≡_, refl, sym, ap, _∙_}
 use mathlib.Core.Bool.{Bool, true, false, cond}
 use mathlib.Core.List.{List, [], _∷_}
 use native.Mathlib.Nat.{le-trans}
-use native.Mathlib.Omega.{arith}
 use lib.Dec.{leb, ltb, eqb}
 use lib.ListN.{length}
-use borrow.Author.Tests.{ltb-true, leb-true, eq-eqb}
-use Rattle.laws.specs.Lists.{all?, keep, sumBelow}
+use borrow.Author.Tests.{ltb-true, leb-true}
+use Rattle.laws.specs.Lists.{all?, sumBelow}
 use Rattle.laws.proofs.Tests.{both, both-left, both-right, opened}
 use Rattle.laws.proofs.Tables.{sum-same, sum-le, sum-zero, sum-bump}
 use Rattle.rules.specs.declared.Mapping.{Mapping}

@@ -1,34 +1,30 @@
 -- A whole world's state and table are sound.
-use Prim.Native.Nat.{ℕ, zero, suc, _+_, _-_, _*_, _/_, _%_, _≤_, _<_}
+use Prim.Native.Nat.{ℕ, zero, _+_, _-_, _/_, _%_, _≤_, _<_}
 use mathlib.Core.Path.{_≡_, refl, sym, ap, subst, _∙_}
-use mathlib.Core.Bool.{Bool, true, false, cond, not, _&&_, _||_}
+use mathlib.Core.Bool.{Bool, true, false, cond}
 use mathlib.Core.List.{List, [], _∷_}
-use mathlib.Core.Option.{Option, some, none}
-use mathlib.Core.Logic.{_⊎_, inl, inr}
+use mathlib.Core.Option.{some, none}
 use native.Mathlib.Omega.{arith}
 use lib.Dec.{leb, ltb, eqb}
-use lib.ListN.{length, getD, take, drop, length-drop, List·getD-eq-default}
+use lib.ListN.{length, getD, drop, length-drop, List·getD-eq-default}
 use lib.Seq.{getD-drop}
-use borrow.Author.Tests.{ltb-true, ltb-false, leb-true, eqb-true, eqb-false, eq-eqb, ne-eqb, lt-ltb, le-ltb, le-leb, not-true}
-use Rattle.laws.specs.Lists.{all?, every?, below, tab, pad, pickBy, pairwise, keep, firstFailing}
-use Rattle.laws.proofs.Tests.{either-way, both, both-left, both-right, true-false, or-cases, or-left, or-right, Each, opened, closed, Clear, cleared}
-use Rattle.laws.proofs.Filters.{all-imp, all-keep, all-kept, pairwise-keep}
-use Rattle.laws.proofs.Tables.{below-at, below-all, length-tab, getD-tab, all-at, all-of, all-tab}
-use Rattle.laws.proofs.Owners.{all-owners, owner-among, all-pickBy, length-pickBy}
+use borrow.Author.Tests.{ltb-true, ltb-false, eq-eqb, le-ltb, le-leb}
+use Rattle.laws.specs.Lists.{all?, every?, below, tab, pickBy}
+use Rattle.laws.proofs.Tests.{both, both-left, both-right, opened, closed}
+use Rattle.laws.proofs.Filters.{all-imp}
+use Rattle.laws.proofs.Tables.{below-all, length-tab, getD-tab, all-at, all-of}
+use Rattle.laws.proofs.Owners.{all-owners}
 use Rattle.rules.specs.declared.Guest.{Guest}
-use Rattle.rules.specs.declared.Settings.{Settings}
 use Rattle.rules.specs.declared.State.{State}
 use Rattle.rules.specs.declared.Mapping.{Mapping}
 use Rattle.rules.specs.declared.Fault.{Fault}
-use Rattle.rules.specs.Sizes.{maxGuests, maxEndpoints, maxRecords, maxFaults, maxLost, faultPlaces, recordWords, tableWords}
+use Rattle.rules.specs.Sizes.{maxGuests, maxEndpoints, maxRecords, maxFaults, maxLost, faultPlaces}
 use Rattle.rules.specs.Configuration.{Config, share, first, last, good}
-use Rattle.rules.specs.Table.{guestOf, domainOf, before, overlap, records, tableOf}
-use Rattle.rules.specs.State.{Attachment, Log, World, Device, noFault, noLog, configOf, attachment, attachmentAt, faultAt, logAt, read, trimmed, flagOf, numberOf, logOf, placed, stateOf, write}
+use Rattle.rules.specs.Table.{guestOf, records, tableOf}
+use Rattle.rules.specs.State.{Attachment, Log, World, noFault, noLog, configOf, attachment, read, trimmed, flagOf, numberOf, logOf, placed, stateOf, write}
 use Rattle.rules.specs.Guests.{Own, own, part, recordsOf}
-use Rattle.rules.specs.Handlers.{outside, isIn, exists, recordSteps}
-use Rattle.rules.specs.Sound.{guest, passes, recordGood, attachmentGood, faultGood, zeroFrom, faultZero, faultPlaceGood, unusedTests, soundTests, sound}
-use Rattle.rules.proofs.Records.{apart, mine}
-use Rattle.rules.proofs.Parts.{Facts, inRange, recordOk, record-exists, logTests, logOk}
+use Rattle.rules.specs.Sound.{guest, recordGood, attachmentGood, faultGood, zeroFrom, faultZero, faultPlaceGood, unusedTests, soundTests, sound}
+use Rattle.rules.proofs.Parts.{inRange, recordOk, logTests, logOk}
 use Rattle.rules.proofs.Worlds.{Good, good-facts, Whole}
 use Rattle.rules.proofs.Words.{length-tableOf, zero-tableOf}
 use Rattle.rules.proofs.Shares.{fits}

@@ -1,18 +1,18 @@
 -- The device's step on state and table is the step on the world that they hold.
-use Prim.Native.Nat.{ℕ, _<_}
-use mathlib.Core.Path.{_≡_, refl, sym, ap, subst, _∙_}
+use Prim.Native.Nat.{ℕ}
+use mathlib.Core.Path.{_≡_, refl, ap, subst}
 use mathlib.Core.Bool.{Bool, true, false, cond, not}
 use mathlib.Core.List.{List, [], _∷_}
 use mathlib.Core.Option.{Option, some, none}
-use borrow.Author.Tests.{not-false, not-true, eqb-true}
+use borrow.Author.Tests.{not-false}
 use native.Mathlib.Omega.{arith}
 use lib.Dec.{eqb}
 use lib.ListN.{length, replicate}
 use Rattle.laws.specs.Runs.{after, given}
-use Rattle.laws.proofs.Tests.{either-way, true-false}
+use Rattle.laws.proofs.Tests.{either-way}
 use Rattle.rules.specs.declared.Guest.{Guest}
 use Rattle.rules.specs.declared.Answer.{Answer}
-use Rattle.rules.specs.declared.Answer.the-variants.{Done, NoSuchGuest, Unsound, UnknownEndpoint, BadConfiguration}
+use Rattle.rules.specs.declared.Answer.the-variants.{Done, NoSuchGuest, Unsound, BadConfiguration}
 use Rattle.rules.specs.Sizes.{tableWords}
 use Rattle.rules.specs.Answers.{number}
 use Rattle.rules.specs.Configuration.{Config, good}
@@ -20,7 +20,7 @@ use Rattle.rules.specs.Table.{tableOf}
 use Rattle.rules.specs.State.{World, Device, configOf, read, write, stateOf, start, zeroState, trimmed}
 use Rattle.rules.specs.Guests.{own, part, replace}
 use Rattle.rules.specs.Sound.{sound}
-use Rattle.rules.specs.Device.{Call, request, access-by, reset-of, fetch-for, Reply, refused, rule, caller, owns, numbered, work, worked, step, SetUp, setUp}
+use Rattle.rules.specs.Device.{Call, request, access-by, reset-of, fetch-for, Reply, refused, rule, caller, numbered, work, worked, step, SetUp, setUp}
 use Rattle.rules.proofs.Worlds.{Good, good-facts, Whole, caller-below, workedWorld, stepWorld, step-keeps, start-whole}
 use Rattle.rules.proofs.Writing.{kept, config-back, read-write}
 use Rattle.rules.proofs.Kept.{own-kept, write-kept}

@@ -1,15 +1,15 @@
 -- What soundness asks of the whole device, that every call keeps it, and that a call touches only its caller's part.
-use Prim.Native.Nat.{ℕ, zero, suc, _+_, _-_, _≤_, _<_}
-use mathlib.Core.Path.{_≡_, refl, sym, ap, subst, _∙_}
-use mathlib.Core.Bool.{Bool, true, false, cond, not, _&&_, _||_}
-use mathlib.Core.List.{List, [], _∷_, _++_}
+use Prim.Native.Nat.{ℕ, zero, suc, _-_, _≤_, _<_}
+use mathlib.Core.Path.{_≡_, refl, sym, ap, _∙_}
+use mathlib.Core.Bool.{Bool, true, false, cond, not}
+use mathlib.Core.List.{List, [], _∷_}
 use mathlib.Core.Option.{Option, some, none}
 use native.Mathlib.Omega.{arith}
 use lib.Dec.{leb, ltb, eqb}
 use lib.ListN.{length, getD, set, replicate, length-set, length-replicate, getD-replicate}
 use lib.Seq.{getD-set-same, getD-set-other}
-use borrow.Author.Tests.{ltb-true, ltb-false, leb-true, eqb-true, eqb-false, eq-eqb, ne-eqb, lt-ltb, le-ltb, le-leb, not-true, not-false}
-use Rattle.laws.specs.Lists.{all?, any?, keep, pickBy, weaveBy, pairwise}
+use borrow.Author.Tests.{ltb-true, leb-true, eqb-true, eqb-false, eq-eqb, lt-ltb, not-false}
+use Rattle.laws.specs.Lists.{all?, any?, keep, pickBy, pairwise}
 use Rattle.laws.proofs.Tests.{either-way, both, both-left, both-right, true-false, or-left, or-right, opened}
 use Rattle.laws.proofs.Filters.{all-imp}
 use Rattle.laws.proofs.Owners.{pick-weave, pick-weave-other, length-weave, length-pickBy}

@@ -1,35 +1,29 @@
 -- What is written into state and table is read back, and is sound.
-use Prim.Native.Nat.{ℕ, zero, suc, _+_, _-_, _*_, _/_, _%_, _≤_, _<_}
-use mathlib.Core.Path.{_≡_, refl, sym, ap, _∙_}
-use mathlib.Core.Bool.{Bool, true, false, cond, not, _&&_, _||_}
-use mathlib.Core.List.{List, [], _∷_}
-use mathlib.Core.Option.{Option, some, none}
+use Prim.Native.Nat.{ℕ, _+_, _-_, _*_, _/_, _%_, _≤_, _<_}
+use mathlib.Core.Path.{_≡_, refl, sym, _∙_}
+use mathlib.Core.Bool.{true}
+use mathlib.Core.List.{List}
+use mathlib.Core.Option.{some, none}
 use native.Mathlib.Omega.{arith}
-use lib.Dec.{leb, ltb, eqb}
-use lib.ListN.{length, getD, take, drop, length-take, length-drop, List·getD-eq-default}
-use lib.Seq.{ext-getD, getD-take, getD-drop, length-take-le}
-use borrow.Author.Tests.{ltb-true, ltb-false, leb-true, eqb-true, eqb-false, eq-eqb, ne-eqb, lt-ltb, le-ltb, le-leb, not-true}
-use Rattle.laws.specs.Lists.{all?, every?, below, tab, pad, pickBy, pairwise}
-use Rattle.laws.proofs.Tests.{both, both-left, both-right, true-false, or-left, or-right, opened, closed}
-use Rattle.laws.proofs.Filters.{all-imp, all-keep}
-use Rattle.laws.proofs.Tables.{below-at, below-all, length-tab, getD-tab, tab-is, tab-same, all-at, all-of}
+use lib.Dec.{leb}
+use lib.ListN.{length, getD, take, length-take}
+use lib.Seq.{ext-getD, getD-take, length-take-le}
+use borrow.Author.Tests.{leb-true}
+use Rattle.laws.specs.Lists.{tab, pad}
+use Rattle.laws.proofs.Tests.{opened}
+use Rattle.laws.proofs.Tables.{length-tab, getD-tab, tab-is}
 use Rattle.rules.specs.declared.Guest.{Guest}
-use Rattle.rules.specs.declared.Settings.{Settings}
 use Rattle.rules.specs.declared.State.{State}
-use Rattle.rules.specs.declared.Mapping.{Mapping}
 use Rattle.rules.specs.declared.Fault.{Fault}
-use Rattle.rules.specs.Sizes.{maxGuests, maxEndpoints, maxRecords, maxFaults, maxLost, faultPlaces, recordWords, tableWords}
-use Rattle.rules.specs.Configuration.{Config, share, first, last, good}
-use Rattle.rules.specs.Table.{guestOf, before, overlap, records, tableOf}
-use Rattle.rules.specs.State.{Attachment, Log, World, Device, noFault, noLog, configOf, attachment, attachmentAt, faultAt, logAt, read, trimmed, flagOf, numberOf, logOf, placed, stateOf, write}
-use Rattle.rules.specs.Guests.{Own, own, part, recordsOf}
-use Rattle.rules.specs.Handlers.{outside}
-use Rattle.rules.specs.Sound.{guest, passes, recordGood, attachmentGood, faultGood, zeroFrom, faultZero, faultPlaceGood, unusedTests, soundTests, sound}
-use Rattle.rules.proofs.Records.{apart, mine}
-use Rattle.rules.proofs.Parts.{Facts, inRange, recordOk, logTests, logOk}
+use Rattle.rules.specs.Sizes.{maxGuests, maxEndpoints, maxFaults, maxLost, faultPlaces}
+use Rattle.rules.specs.Configuration.{Config, good}
+use Rattle.rules.specs.Table.{records, tableOf}
+use Rattle.rules.specs.State.{Attachment, Log, World, noFault, noLog, configOf, attachment, faultAt, logAt, read, trimmed, flagOf, numberOf, logOf, placed, stateOf, write}
+use Rattle.rules.specs.Guests.{own, part}
+use Rattle.rules.specs.Sound.{guest}
+use Rattle.rules.proofs.Parts.{logTests, logOk}
 use Rattle.rules.proofs.Worlds.{Good, good-facts, Whole}
-use Rattle.rules.proofs.Words.{length-tableOf, zero-tableOf, records-tableOf}
-use Rattle.rules.proofs.Shares.{fits}
+use Rattle.rules.proofs.Words.{records-tableOf}
 
 -- the configuration as a state holds it
 unfoldable pub kept : Config → Config

@@ -1,6 +1,6 @@
 -- "Set-up takes a guest count (1 to 4); per guest a share and a memory window, first and last address; a page_size_mask;
 -- an input range (64-bit); a domain range (32-bit); and two lent lists of equal length, endpoint numbers and owners."
-use Prim.Native.Nat.{ℕ, _-_, _^_}
+use Prim.Native.Nat.{ℕ, _^_}
 use mathlib.Core.Bool.{Bool, not, _&&_}
 use mathlib.Core.List.{List, [], _∷_}
 use lib.Dec.{leb, ltb, eqb}

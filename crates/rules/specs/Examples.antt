@@ -4,7 +4,7 @@ use mathlib.Core.Path.{_≡_, refl}
 use mathlib.Core.List.{List, [], _∷_, _++_}
 use mathlib.Core.List as L
 use lib.Count.{trailingZeros}
-use lib.ListN.{getD, replicate}
+use lib.ListN.{replicate}
 use Rattle.laws.specs.Lists.{below, sumBelow, tabFrom}
 use Rattle.laws.specs.Bytes.{leBytes}
 use Rattle.laws.specs.Runs.{after, given, every}
@@ -15,7 +15,7 @@ use Rattle.rules.specs.Configuration.{Config, goodSettings, goodLists, g
 use Rattle.rules.specs.Table.{tableOf, before, overlap}
 use Rattle.rules.specs.State.{Device, configOf, read, write, stateOf, trimmed, start, zeroState}
 use Rattle.rules.specs.Guests.{own, part, replace, withRecordsOf}
-use Rattle.rules.specs.Requests.{OK, INVAL, RANGE, NOMEM, ATTACH, MAP, UNMAP}
+use Rattle.rules.specs.Requests.{OK, RANGE, NOMEM, ATTACH, MAP, UNMAP}
 use Rattle.rules.specs.Handlers.{settle, outside, isIn, exists, listed, ofKey, without, leave, enter, moveFrom, attached, attach, detach, granularity, formSteps, addMapping, inside, straddles, unmap, handle}
 use Rattle.rules.specs.Access.{reset}
 use Rattle.rules.specs.Sound.{guest, recordGood, attachmentGood, faultGood, zeroFrom, faultPlaceGood, sound}

@@ -1,8 +1,6 @@
 -- One guest's own part of the device: what its rules read and change, and nothing of another guest.
 use Prim.Native.Nat.{ℕ}
-use mathlib.Core.Bool.{Bool}
-use mathlib.Core.List.{List, [], _∷_, _++_}
-use mathlib.Core.Option.{Option, some, none}
+use mathlib.Core.List.{List, _++_}
 use lib.Dec.{ltb, eqb}
 use lib.ListN.{set}
 use Rattle.laws.specs.Lists.{keep, pickBy, weaveBy}

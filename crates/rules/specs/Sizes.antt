@@ -1,5 +1,5 @@
 -- The sizes of document 01, each named once.
-use Prim.Native.Nat.{ℕ, _*_, _^_}
+use Prim.Native.Nat.{ℕ, _^_}
 
 -- "one to four guests"
 abbrev pub maxGuests : ℕ

@@ -2,8 +2,8 @@
 -- unattached; an attached one may be in domain 0 too), and for each guest a fault log of at most 16 records, oldest first,
 -- unused places zero, and a lost count that stops at 65,535. Guest and endpoint places not in use are zero too."
 use Prim.Native.Nat.{ℕ, _+_, _*_, _/_, _%_}
-use mathlib.Core.Bool.{Bool, cond}
-use mathlib.Core.List.{List, [], _∷_}
+use mathlib.Core.Bool.{cond}
+use mathlib.Core.List.{List, []}
 use mathlib.Core.Option.{Option, some, none}
 use lib.Dec.{ltb, eqb}
 use lib.ListN.{length, getD, take, replicate}

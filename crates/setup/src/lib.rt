@@ -141,8 +141,8 @@ fn is_good(s: Settings, endpoints: &[u32], owners: &[u8]) -> bool
     if n != owners.len() {
         return false;
     }
-    let set = configuration::good_settings(s);
-    let lists = configuration::good_lists(s, n, endpoints, owners);
+    let set = settings::good_settings(s);
+    let lists = endpoint_lists::good_lists(s, n, endpoints, owners);
     set & lists
 }
 
@@ -162,7 +162,7 @@ pub fn set_up(settings: Settings, endpoints: &[u32], owners: &[u8], t: &mut [u64
             state: zero_state(),
         };
     }
-    rewriting::clear(t);
+    removal::clear(t);
     Given {
         answer: Answer::Done,
         state: start_state(settings, endpoints, owners),

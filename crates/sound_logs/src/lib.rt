@@ -5,9 +5,9 @@ ghost use mathlib.Core.Path.{_≡_};
 ghost use mathlib.Core.Bool.{cond, _&&_};
 ghost use Prim.Native.Nat.{_≤_};
 ghost use lib.Dec.{leb};
-ghost use lib.ListN.{length, getD};
+ghost use lib.ListN.{length};
 ghost use Rattle.laws.specs.Lists.{below, pickBy};
-ghost use Rattle.rules.specs.Sizes.{maxGuests, maxEndpoints, maxFaults, faultPlaces, maxLost};
+ghost use Rattle.rules.specs.Sizes.{maxEndpoints, faultPlaces};
 ghost use Rattle.rules.specs.State.{configOf};
 ghost use Rattle.rules.specs.Sound.{faultGood, faultZero, faultPlaceGood};
 ghost use Rattle.sound_logs.specs.Faults.{endpointsAlone, faultsAlone};
@@ -23,45 +23,6 @@ use zeros::zero_usize;
 
 // The places for a guest's faults.
 const MAX_FAULTS: usize = 16;
-
-// Whether the log counts of the first n guests are at most 16.
-fn counts_within(n: usize, logged: &[usize; 4]) -> bool
-    requires { ⌜ n ≤ 4 ⌝ }
-    ensures { λ r. ⌜ r ≡ below n (λ g. leb (getD (now (logged .entry)) g 0) maxFaults) ⌝ }
-{
-    let mut ok = true;
-    for g in 0..n {
-        let count = logged[g];
-        ok = (count <= MAX_FAULTS) & ok;
-    }
-    ok
-}
-
-// Whether their lost counts are at most 65,535.
-fn lost_within(n: usize, lost: &[u32; 4]) -> bool
-    requires { ⌜ n ≤ 4 ⌝ }
-    ensures { λ r. ⌜ r ≡ below n (λ g. leb (getD (now (lost .entry)) g 0) maxLost) ⌝ }
-{
-    let mut ok = true;
-    for g in 0..n {
-        let count = lost[g];
-        ok = (count <= 65535) & ok;
-    }
-    ok
-}
-
-// Whether the log counts of the first n guests are at most 16 and their lost counts at most 65,535; false where there are
-// no places for n guests.
-pub fn counts_good<'a>(n: usize, logged: &'a [usize; 4], lost: &'a [u32; 4]) -> bool
-    ensures { λ r. ⌜ r ≡ (leb n maxGuests && (below n (λ g. leb (getD (now (logged .entry)) g 0) maxFaults) && below n (λ g. leb (getD (now (lost .entry)) g 0) maxLost))) ⌝ }
-{
-    if 4 < n {
-        return false;
-    }
-    let held = counts_within(n, logged);
-    let dropped = lost_within(n, lost);
-    held & dropped
-}
 
 // Whether f, at a place that is in use or not, is a fault of guest g or zero.
 fn fault_good<'a>(

@@ -12,7 +12,8 @@ use Rattle.rules.specs.declared.Mapping.{Mapping}
 use Rattle.rules.specs.Sizes.{domainSpan}
 use Rattle.rules.specs.Guests.{recordsOf}
 use Rattle.rules.specs.Sound.{guest}
-use Rattle.sound_records.specs.Scan.{follows, scan, run, opening}
+use Rattle.forms.specs.Forms.{run}
+use Rattle.sound_records.specs.Scan.{follows, scan, opening}
 
 -- the tests of a record that does not go on with the domain: f its own, lower and same of its key, past of its start, d of its domain
 stops : (f lower same past d : Bool) → (same && (past && f)) ≡ false → (same ≡ true → lower ≡ false) → (f && ((lower || (same && past)) && (same || d))) ≡ (f && (lower && d))

@@ -1,5 +1,3 @@
-pub mod Owned
-pub mod Addresses
 pub mod Order
 pub mod Attached
 mod GoingOn

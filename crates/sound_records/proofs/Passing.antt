@@ -17,8 +17,10 @@ use Rattle.rules.specs.Table.{guestOf}
 use Rattle.rules.specs.Guests.{recordsOf}
 use Rattle.rules.specs.Sound.{guest}
 use Rattle.table.specs.Records.{noMapping}
-use Rattle.table.proofs.Laws.{to-go, gone}
-use Rattle.sound_records.specs.Scan.{formGood, ownGood, scan, run, opening, sharesKept}
+use Rattle.table.proofs.Laws.{gone}
+use Rattle.forms.specs.Forms.{formGood, run}
+use Rattle.forms.proofs.Going.{now-at}
+use Rattle.sound_records.specs.Scan.{ownGood, scan, opening, sharesKept}
 use Rattle.laws.proofs.Turns.{below-same}
 use Rattle.sound_records.proofs.GoingOn.{run-own, run-other}
 
@@ -42,22 +44,11 @@ count-none l = (refl, λ g h. let e = getD-replicate {A = ℕ} maxGuests g 0 0 h
 
 -- the record x at place i of the first n
 module _ (l : List Mapping) (n i : ℕ) (x : Mapping) (h : i < length (take n l)) (e : x ≡ getD l i noMapping) where
-  now-at : drop i (take n l) ≡ x ∷ drop (i + 1) (take n l)
-  now-at = rw e (to-go noMapping l n i h)
-
   pub opening-at : (form domain : Mapping → Bool) (start : Bool) (key : ℕ) (a d v : Bool) → a ≡ (form x && (start || ltb key (x .key))) → d ≡ domain x → (a && d) ≡ v
       → opening form domain start key (drop i (take n l)) ≡ (v && scan form domain false x (drop (i + 1) (take n l)))
   opening-at form domain start key a d v ha hd hv =
       let z : (form x && ((start || ltb key (x .key)) && domain x)) ≡ v = sym (and-assoc (form x) (start || ltb key (x .key)) (domain x)) ∙ rw (← ha, ← hd) hv in
-      ap (opening form domain start key) now-at ∙ rw z
-
-  -- whether x goes on with a domain
-  module _ (form : Mapping → Bool) (key end : ℕ) where
-    pub run-stops : (eqb (x .key) key && (ltb end (x .start) && form x)) ≡ false → run form key end (drop i (take n l)) ≡ 0
-    run-stops t = ap (run form key end) now-at ∙ rw t
-
-    pub run-goes : (eqb (x .key) key && (ltb end (x .start) && form x)) ≡ true → run form key end (drop i (take n l)) ≡ suc (run form key (x .end) (drop (i + 1) (take n l)))
-    run-goes t = ap (run form key end) now-at ∙ rw t
+      ap (opening form domain start key) (now-at l n i x h e) ∙ rw z
 
   -- the counts after x and the k records that go on with its domain
   pub count-run : (form : Mapping → Bool) (counts : List ℕ) (k m : ℕ) → k ≡ run form (x .key) (x .end) (drop (i + 1) (take n l)) → m ≡ i + 1 + k → guestOf x < maxGuests → Counted counts i (take n l)
@@ -65,7 +56,7 @@ module _ (l : List Mapping) (n i : ℕ) (x : Mapping) (h : i < length (take n l)
   count-run form counts k m hk hm w c = (length-set counts (guestOf x) _ ∙ c .0, λ g h. go g h (eqb (guestOf x) g) refl)
     where
       at : (g : ℕ) (b : Bool) → eqb (guestOf x) g ≡ b → recordsOf (guest g) (drop i (take n l)) ≡ cond b (x ∷ recordsOf (guest g) (drop (i + 1) (take n l))) (recordsOf (guest g) (drop (i + 1) (take n l)))
-      at g b q = ap (recordsOf (guest g)) now-at ∙ rw q
+      at g b q = ap (recordsOf (guest g)) (now-at l n i x h e) ∙ rw q
 
       on : drop (run form (x .key) (x .end) (drop (i + 1) (take n l))) (drop (i + 1) (take n l)) ≡ drop m (take n l)
       on = drop-drop (run form (x .key) (x .end) (drop (i + 1) (take n l))) (i + 1) (take n l) ∙ rw (← hk, ← hm)

@@ -1,25 +1,20 @@
 -- One pass over the live records, each beside the one before it.
-use Prim.Native.Nat.{ℕ, suc}
-use mathlib.Core.Bool.{Bool, true, false, cond, not, _&&_, _||_}
+use Prim.Native.Nat.{ℕ}
+use mathlib.Core.Bool.{Bool, true, false, not, _&&_, _||_}
 use mathlib.Core.List.{List, [], _∷_}
 use lib.Dec.{leb, ltb, eqb}
 use lib.ListN.{length, getD, take}
-use Rattle.laws.specs.Lists.{below, firstFailing, pickBy, tab}
-use Rattle.rules.specs.declared.InputRange.{InputRange}
+use Rattle.laws.specs.Lists.{below, pickBy, tab}
 use Rattle.rules.specs.declared.Settings.{Settings}
 use Rattle.rules.specs.declared.Mapping.{Mapping}
 use Rattle.rules.specs.Sizes.{maxGuests, maxEndpoints}
 use Rattle.rules.specs.Configuration.{share, first, last}
 use Rattle.rules.specs.State.{Attachment, attachment}
 use Rattle.rules.specs.Table.{records, guestOf, domainOf}
-use Rattle.rules.specs.Guests.{Own, recordsOf}
-use Rattle.rules.specs.Handlers.{exists, formSteps}
-use Rattle.rules.specs.Sound.{guest, passes}
-
--- a guest's limits alone: what steps 2 to 6 of MAP look at
-abbrev pub limits : ℕ → InputRange → ℕ → ℕ → Own
-limits mask input first last =
-    record { guest = guest 0; share = 0; first = first; last = last; mask = mask; input = input; domains = record { start = 0; end = 0 }; endpoints = [] }
+use Rattle.rules.specs.Guests.{recordsOf}
+use Rattle.rules.specs.Handlers.{exists}
+use Rattle.rules.specs.Sound.{guest}
+use Rattle.forms.specs.Forms.{formGood}
 
 -- the attachments of guest g, among the first n endpoints
 abbrev pub attachmentsOf : ℕ → ℕ → List ℕ → List ℕ → List ℕ → List Attachment
@@ -28,10 +23,6 @@ attachmentsOf g n owners attached domains = pickBy g (take n owners) (tab n (λ 
 -- s may stand right after r: a higher first word, or the same and addresses past those of r
 unfoldable pub follows : Mapping → Mapping → Bool
 follows r s = ltb (r .key) (s .key) || (eqb (r .key) (s .key) && ltb (r .end) (s .start))
-
--- steps 2 to 6 of MAP pass, within these limits
-unfoldable pub formGood : ℕ → InputRange → ℕ → ℕ → Mapping → Bool
-formGood mask input first last r = passes (firstFailing (formSteps (limits mask input first last) r))
 
 -- the record's guest is one, and steps 2 to 6 of MAP pass for it
 unfoldable pub ownGood : Settings → Mapping → Bool
@@ -47,12 +38,6 @@ abbrev pub scan : (Mapping → Bool) → (Mapping → Bool) → Bool → Mapping
 scan form domain start p [] = true
 scan form domain start p (r ∷ l) =
     (form r && ((start || follows p r) && ((not start && eqb (p .key) (r .key)) || domain r))) && scan form domain false r l
-
--- how many records go on with the domain of a key after one that ends at `end`: each of that key, past the end of the one
--- before, and good in itself
-abbrev pub run : (Mapping → Bool) → ℕ → ℕ → List Mapping → ℕ
-run form key end [] = 0
-run form key end (r ∷ l) = cond (eqb (r .key) key && (ltb end (r .start) && form r)) (suc (run form key (r .end) l)) 0
 
 -- the scan where the next record is the first of a domain, which comes after that of key, or is the first of all
 abbrev pub opening : (Mapping → Bool) → (Mapping → Bool) → Bool → ℕ → List Mapping → Bool

@@ -1,14 +1,10 @@
 // The test that the live records are in order and apart, that each would pass steps 1 to 6 of MAP, and that no guest holds
 // more than its share: one pass, domain by domain.
 mod domains;
-mod form;
-mod runs;
-mod shares;
 
 ghost use mathlib.Core.Path.{_≡_};
 ghost use mathlib.Core.Bool.{true, _&&_};
 ghost use Prim.Native.Nat.{_≤_, _<_};
-ghost use lib.Dec.{leb, ltb};
 ghost use lib.ListN.{length, take};
 ghost use Rattle.laws.specs.Lists.{every?};
 ghost use Rattle.rules.specs.Table.{records};
@@ -16,10 +12,10 @@ ghost use Rattle.table.specs.Records.{noMapping};
 ghost use Rattle.sound_records.specs.Scan as spec;
 use domains::domain_held;
 use domains::hints_of;
-use form::opens;
+use forms::opens;
+use forms::run_end;
 use rules::Settings;
-use runs::run_end;
-use shares::shares_kept;
+use sound_places::shares_kept;
 
 // The keys of a guest's domains: a key is guest times this plus domain.
 const DOMAIN_SPAN: u64 = 4294967296;

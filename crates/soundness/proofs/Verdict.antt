@@ -6,7 +6,7 @@ use mathlib.Core.List.{List, [], _∷_}
 use mathlib.Core.Option.{Option, some}
 use native.Mathlib.Omega.{arith}
 use lib.Dec.{leb, ltb, eqb}
-use lib.ListN.{length, getD, take, length-take}
+use lib.ListN.{length, getD, take}
 use borrow.Author.Tests.{lt-ltb, le-leb, leb-true, not-true, eqb-true, eqb-false}
 use Rattle.laws.specs.Lists.{all?, every?, pairwise, below, firstFailing}
 use Rattle.laws.proofs.Tests.{Each, both-left, both-right, true-false, opened, closed, cleared}
@@ -25,7 +25,8 @@ use Rattle.rules.proofs.Words.{length-records}
 use Rattle.rules.proofs.Records.{wide, apart}
 use Rattle.rules.proofs.Parts.{passes-none, form-wide}
 use Rattle.table.specs.Records.{noMapping}
-use Rattle.sound_records.specs.Scan.{limits, formGood, ownGood, domainGood, scan, sharesKept, placesTests}
+use Rattle.forms.specs.Forms.{limits, formGood}
+use Rattle.sound_records.specs.Scan.{ownGood, domainGood, scan, sharesKept, placesTests}
 use Rattle.sound_records.proofs.Order.{scan-is}
 use Rattle.soundness.specs.Pieces.{frameTests, framed}
 
@@ -79,7 +80,7 @@ module _ (s : Settings) (n m : ℕ) (es os ws : List ℕ) where
   in-frame h = opened (frameTests s n m es os ws) h
 
   -- the endpoints of a good configuration have places
-  pub listed-fits : framed s n m es os ws ≡ true → n ≤ 32
+  listed-fits : framed s n m es os ws ≡ true → n ≤ 32
   unfolding goodLists
   listed-fits h =
       let t = in-frame h in

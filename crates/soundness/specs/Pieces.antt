@@ -6,10 +6,9 @@ use lib.Dec.{leb, eqb}
 use lib.ListN.{length, take}
 use Rattle.laws.specs.Lists.{every?}
 use Rattle.rules.specs.Sizes.{maxRecords, tableWords}
-use Rattle.rules.specs.declared.DomainRange.{DomainRange}
 use Rattle.rules.specs.declared.Settings.{Settings}
 use Rattle.rules.specs.declared.State.{State}
-use Rattle.rules.specs.Configuration.{Config, goodSettings, goodLists}
+use Rattle.rules.specs.Configuration.{goodSettings, goodLists}
 use Rattle.rules.specs.State.{Device}
 use Rattle.sound_logs.specs.Faults.{stateWith}
 
@@ -35,12 +34,3 @@ framed settings listed live endpoints owners table = every? (frameTests settings
 abbrev pub withoutFaults : Settings → ℕ → List ℕ → List ℕ → List ℕ → List ℕ → List ℕ → List ℕ → State
 withoutFaults settings listed endpoints owners attached domains logged lost =
     stateWith settings listed 0 endpoints owners attached domains logged lost [] [] [] []
-
--- a domain range alone: what the test of an attachment looks at
-abbrev pub rangeAlone : DomainRange → Config
-rangeAlone range =
-    record {
-      settings = record { guests = 0; shares = []; firsts = []; lasts = []; mask = 0; input = record { start = 0; end = 0 }; domains = range };
-      endpoints = [];
-      owners = [];
-    }

@@ -1,5 +1,4 @@
 // The test that a state and a table are sound.
-mod attachments;
 mod unused;
 
 ghost use mathlib.Core.Path.{_≡_};
@@ -7,12 +6,12 @@ ghost use lib.Dec.{eqb};
 ghost use lib.ListN.{length, take};
 ghost use Rattle.rules.specs.Sound.{sound};
 ghost use Rattle.soundness.specs.Pieces.{framed, deviceOf};
-use attachments::attachments_good;
-use configuration::good_lists;
-use configuration::good_settings;
+use endpoint_lists::good_lists;
 use rules::Settings;
-use sound_logs::counts_good;
+use settings::good_settings;
 use sound_logs::faults_good;
+use sound_places::attachments_good;
+use sound_places::counts_good;
 use sound_records::records_good;
 use unused::unused_zero;
 use zeros::zero_u64;

@@ -1,7 +1,7 @@
 -- How many records a fetch gives.
 use Prim.Native.Nat.{ℕ, zero, suc, _*_, _/_, _≤_}
 use mathlib.Core.Path.{_≡_, refl, sym, ap}
-use mathlib.Core.Bool.{true, not, _&&_}
+use mathlib.Core.Bool.{true, not}
 use mathlib.Core.List.{List, _∷_}
 use native.Mathlib.Omega.{arith}
 use lib.Dec.{leb}
@@ -16,7 +16,7 @@ use Rattle.rules.specs.Answers.{fetchedCount}
 use Rattle.rules.specs.Sound.{sound}
 use Rattle.effects.specs.declared.Given.{Given}
 use Rattle.effects.specs.Checked.{replied}
-use Rattle.lines.specs.Lines.{fetchFits}
+use Rattle.fetch_lines.specs.Lines.{fetchFits}
 use Rattle.rules.specs.Device.{Reply, step, worked, work, rule, fetched, caller, numbered, fetch-for}
 
 module _ (d : Device) (g : Guest) (b : List ℕ) where

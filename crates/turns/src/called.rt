@@ -7,8 +7,10 @@ ghost use Rattle.rules.specs.Device.{step, fetch-for};
 ghost use Rattle.effects.specs.Flat.{device};
 ghost use Rattle.playing.specs.Turns.{turnOf, fetchedTurn};
 ghost use Rattle.playing.specs.Telling.{Tells};
+use fetch_lines::put_fetch;
 use items::StartFields;
-use lines::put;
+use lines::put_access;
+use lines::put_request;
 use playing::naming;
 use playing::player::Player;
 use playing::player::Turned;
@@ -42,7 +44,7 @@ pub(crate) fn start(
     let given = naming::start(state, t, f);
     let answer = given.answer;
     let next = given.state;
-    let k = printing::put_number(out, at, LETTER_S, answer);
+    let k = plain_lines::put_number(out, at, LETTER_S, answer);
     worked(true, next, items::size_of(s), k)
 }
 
@@ -67,7 +69,7 @@ pub(crate) fn request(
     let given = requests::request(state, t, g, &s[2..n], &mut writable);
     let answer = given.answer;
     let next = given.state;
-    let k = put::put_request(out, at, answer, &writable);
+    let k = put_request(out, at, answer, &writable);
     worked(true, next, n, k)
 }
 
@@ -92,7 +94,7 @@ pub(crate) fn access(
     let given = accesses::access(state, t, e, address, kind);
     let answer = given.answer;
     let next = given.state;
-    let k = put::put_access(out, at, answer);
+    let k = put_access(out, at, answer);
     worked(true, next, items::size_of(s), k)
 }
 
@@ -115,7 +117,7 @@ pub(crate) fn reset(
     let given = requests::resetting::reset(state, t, g);
     let answer = given.answer;
     let next = given.state;
-    let k = printing::put_number(out, at, LETTER_Z, answer);
+    let k = plain_lines::put_number(out, at, LETTER_Z, answer);
     worked(true, next, items::size_of(s), k)
 }
 
@@ -135,7 +137,7 @@ fn fetch_into(
     let given = fetches::fetch(state, t, g, buffer);
     let answer = given.answer;
     let next = given.state;
-    let k = put::put_fetch(out, at, answer, buffer);
+    let k = put_fetch(out, at, answer, buffer);
     worked(true, next, items::size_of(s), k)
 }
 

@@ -12,7 +12,7 @@ use rules::State;
 pub extern "C" fn viommu_held(s: State, t: &[u64], g: Guest) -> usize
     ensures { λ r. ⌜ r ≡ length (recordsOf g (take (s .live) (records (now (t .entry))))) ⌝ }
 {
-    searching::held(t, s.live, g)
+    holdings::held(t, s.live, g)
 }
 
 // A guest's lost count, 0 for a guest number that there is not.
@@ -29,7 +29,7 @@ pub extern "C" fn viommu_lost(s: State, g: Guest) -> u32
 pub extern "C" fn viommu_readable_length(kind: u8) -> usize
     ensures { λ r. ⌜ r ≡ readableLength kind ⌝ }
 {
-    layouts::lengths::readable_length(kind)
+    lengths::readable_length(kind)
 }
 
 // The number of bytes that a request of this type has in its writable part.
@@ -37,5 +37,5 @@ pub extern "C" fn viommu_readable_length(kind: u8) -> usize
 pub extern "C" fn viommu_writable_length(kind: u8) -> usize
     ensures { λ r. ⌜ r ≡ writableLength kind ⌝ }
 {
-    layouts::lengths::writable_length(kind)
+    lengths::writable_length(kind)
 }

@@ -1,15 +1,18 @@
 // Bytes copied to the front of a lent buffer.
 ghost use mathlib.Core.Path.{_≡_};
 ghost use mathlib.Core.List.{_++_};
-ghost use Prim.Native.Nat.{_≤_};
-ghost use lib.ListN.{length, drop};
+ghost use lib.ListN.{length, take, drop};
 
-// The first bytes of out become those of bytes, and the rest stays.
-pub(crate) fn copy_in(out: &mut [u8], bytes: &[u8])
-    requires { ⌜ length (now bytes) ≤ length (now out) ⌝ }
-    ensures { λ _. ⌜ now (out .exit) ≡ now (bytes .entry) ++ drop (length (now (bytes .entry))) (now (out .entry)) ⌝ }
+// The first bytes of out become those of bytes, as many as there is room for, and the rest stays.
+pub fn copy_in(out: &mut [u8], bytes: &[u8])
+    ensures { λ _. ⌜ now (out .exit) ≡ take (length (now (out .entry))) (now (bytes .entry)) ++ drop (length (now (bytes .entry))) (now (out .entry)) ⌝ }
 {
-    for i in 0..bytes.len() {
+    let n = if bytes.len() < out.len() {
+        bytes.len()
+    } else {
+        out.len()
+    };
+    for i in 0..n {
         out[i] = bytes[i];
     }
 }

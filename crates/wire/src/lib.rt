@@ -1,5 +1,4 @@
-// Numbers in bytes, and the bytes of statuses and of fault records.
-mod copying;
-pub mod fault;
+// Numbers in bytes, the bytes of statuses, and bytes copied.
+pub mod copying;
 pub mod fields;
 pub mod status;

@@ -1,11 +1,9 @@
 -- `checks::is_sound` meets its contract. Assumes nothing.
 use Prim.Native.Nat.{ℕ, _≤_}
-use mathlib.Core.Path.{_≡_}
 use native.Mathlib.Omega.{arith}
 use mir.Syntax.{w64}
 use mir.Val.{Fits}
 use Rattle.rules.specs.Configuration.{last}
-use lib.ListN.{length}
 use borrow.Author.Needs.{needs}
 use Rattle.effects.specs.Checked.{Shaped}
 use Rattle.checks.proofs.is_sound.Statement.{statement}

@@ -2,7 +2,7 @@
 use native.Mathlib.Omega.{arith}
 use borrow.Author.Needs.{needs}
 use borrow.Author.Tests.{ltb-true}
-use Rattle.effects.proofs.Entries.{serve-refused, serve-works, live-fits, few-guests, mask-set}
+use Rattle.effects.proofs.Entries.{serve-refused, serve-works, live-fits, few-guests}
 use Rattle.requests.proofs.serve.Statement.{statement}
 use Rattle.requests.proofs.serve.Tie as tie
 
@@ -19,7 +19,6 @@ handle-requires c κs =
     let a = s .args in
     let sound-here = s .pre .0 in
     let shape = s .pre .1 in (
-      mask-set (a .s) (a .t .now) sound-here shape,
       omega (arith, few-guests (a .s) (a .t .now) sound-here shape, ltb-true (a .g .0) (a .s .settings .guests) (s .pre .2)),
       omega (arith, live-fits (a .s) (a .t .now) sound-here shape),
     )

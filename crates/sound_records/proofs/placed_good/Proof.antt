@@ -5,17 +5,20 @@ use Prim.Native.Nat.{ℕ, _<_, _≤_, _+_, _-_, _/_}
 use mathlib.Core.Path.{_≡_, refl, sym, ap, _∙_}
 use mathlib.Core.Bool.{Bool, true, false, _&&_, and-false}
 use mathlib.Core.List.{List, [], _∷_}
-use lib.Dec.{eqb}
-use lib.ListN.{length, take, drop}
+use lib.Dec.{leb, eqb}
+use lib.ListN.{length, getD, take, drop, length-drop}
 use lib.Seq.{length-take-le, drop-drop}
-use borrow.Author.Tests.{ne-eqb, not-true, not-false}
+use borrow.Author.Tests.{le-leb, ne-eqb, not-true, not-false}
+use Rattle.laws.specs.Lists.{below}
 use Rattle.laws.proofs.Tests.{both}
 use Rattle.rules.specs.declared.Mapping.{Mapping}
-use Rattle.rules.specs.Configuration.{first, last}
+use Rattle.rules.specs.Configuration.{share, first, last}
 use Rattle.rules.specs.Table.{records, guestOf}
 use Rattle.table.specs.Records.{noMapping}
 use Rattle.table.proofs.Laws.{gone}
-use Rattle.sound_records.specs.Scan.{formGood, ownGood, domainGood, scan, opening, run}
+use Rattle.forms.specs.Forms.{formGood, run}
+use Rattle.forms.proofs.Going.{run-within}
+use Rattle.sound_records.specs.Scan.{ownGood, domainGood, scan, opening}
 use Rattle.sound_records.proofs.GoingOn.{after-run}
 use Rattle.sound_records.proofs.Passing.{own-within, own-beyond, Counted, count-none, opening-at, count-run, count-end}
 use Rattle.sound_records.proofs.placed_good.Statement.{statement}
@@ -133,7 +136,8 @@ loop-again c =
     let F : Mapping → Bool = formGood (a .settings .mask) (a .settings .input) (first (a .settings) (guestOf x)) (last (a .settings) (guestOf x)) in
     let k : ℕ = run F (x .key) (x .end) (drop (i + 1) (take (a .live) T)) in
     let w : guestOf x < a .settings .guests = omega arith in
-    let e : c .run-end .result ≡ i + 1 + k = c .run-end .ensures .0 in
+    let e : c .run-end .result ≡ i + 1 + k = c .run-end .ensures in
+    let q : k ≤ length (take (a .live) T) - (i + 1) = rw (← length-drop (i + 1) (take (a .live) T)) (run-within F (x .key) (x .end) (drop (i + 1) (take (a .live) T))) in
     let z : scan O D true noMapping (take (a .live) T) ≡ scan O D false x (drop (i + 1) (take (a .live) T)) =
     s .loop .inv .1
     ∙ opening-at T (a .live) i x (omega arith) (g .get .ensures) O D (eqb i 0) (s .loop .key) (o .opens .result) (d .domain-held .result) true
@@ -154,7 +158,9 @@ returns-4 c =
     let l : length (take (a .live) T) ≡ a .live = length-take-le (a .live) T (u .pre .4) in
     let z : scan O D true noMapping (take (a .live) T) ≡ true =
     s .loop .inv .1 ∙ ap (opening O D (eqb (s .loop .i) 0) (s .loop .key)) (gone T (a .live) (s .loop .i) (omega arith)) in
-    c .shares-kept .ensures ∙ count-end (a .settings) T (a .live) (s .loop .i) (s .loop .counts) (omega arith) (omega arith) (s .loop .inv .2) ∙ rw z
+    let y : c .shares-kept .result ≡ below (a .settings .guests) (λ g. leb (getD (s .loop .counts) g 0) (share (a .settings) g)) =
+    c .shares-kept .ensures ∙ ap (λ (b : Bool). b && below (a .settings .guests) (λ g. leb (getD (s .loop .counts) g 0) (share (a .settings) g))) (le-leb (a .settings .guests) 4 (u .pre .0)) in
+    y ∙ count-end (a .settings) T (a .live) (s .loop .i) (s .loop .counts) (omega arith) (omega arith) (s .loop .inv .2) ∙ rw z
 
 pub placed-good-spec : {M : Type 1} → statement M
 placed-good-spec =

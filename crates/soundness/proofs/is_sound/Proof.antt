@@ -10,7 +10,7 @@ use Rattle.rules.specs.State.{configOf}
 use Rattle.rules.specs.Guests.{own}
 use Rattle.rules.specs.Sound.{attachmentGood, faultGood, faultPlaceGood}
 use Rattle.soundness.specs.Pieces.{deviceOf}
-use Rattle.soundness.proofs.Verdict.{refused, either-refused, both-passed, granted, frame-refused, in-frame, listed-fits, frame-guests, frame-endpoints, frame-places, decided}
+use Rattle.soundness.proofs.Verdict.{refused, either-refused, both-passed, granted, frame-refused, in-frame, frame-guests, frame-endpoints, frame-places, decided}
 use Rattle.soundness.proofs.is_sound.Statement.{statement}
 use Rattle.soundness.proofs.is_sound.Tie as tie
 
@@ -22,7 +22,10 @@ returns-2 c = sym (refused _ 12 (sym (c .before .unused-zero .ensures) ∙ not-t
 
 returns-3 : tie.Need-returns-3
 unfolding configOf attachmentGood
-returns-3 c = sym (refused _ 9 (sym (c .before .attachments-good .ensures) ∙ not-true _ (c .if3 .taken)))
+returns-3 c =
+    let e1 = c .before .before .before .before in
+    let k = sym (e1 .before .frame-good .ensures) ∙ not-false _ (e1 .if1 .left) in
+    sym (refused _ 9 (granted _ _ false (frame-endpoints _ _ _ _ _ _ k) (c .before .attachments-good .ensures) (not-true _ (c .if3 .taken))))
 
 returns-4 : tie.Need-returns-4
 unfolding configOf
@@ -40,11 +43,6 @@ returns-5 c =
 
 returns-6 : tie.Need-returns-6
 returns-6 c = sym (refused _ 5 (sym (c .before .zero-u64 .ensures) ∙ not-true _ (c .if6 .taken)))
-
-attachments-good-requires : tie.Need-attachments-good-requires
-attachments-good-requires c κs =
-    let h = c .before .before in
-    listed-fits _ _ _ _ _ _ (sym (h .before .frame-good .ensures) ∙ not-false _ (h .if1 .left))
 
 mul-zero-u64 : tie.Need-mul-zero-u64
 mul-zero-u64 c =
@@ -77,7 +75,7 @@ returns-7 c =
     (f .1 .1 .0)
     (f .1 .0)
     (sym (e6 .before .zero-u64 .ensures) ∙ not-false _ (e6 .if6 .left))
-    (sym (e3 .before .attachments-good .ensures) ∙ not-false _ (e3 .if3 .left))
+    (granted _ _ true (frame-endpoints _ _ _ _ _ _ k) (e3 .before .attachments-good .ensures) (not-false _ (e3 .if3 .left)))
     (counts .0)
     (counts .1)
     (sym (e2 .before .unused-zero .ensures) ∙ not-false _ (e2 .if2 .left))
@@ -91,7 +89,7 @@ is-sound-spec =
     returns
     (λ c κs. tt)
     returns-2
-    attachments-good-requires
+    (λ c κs. tt)
     returns-3
     (λ c κs. tt)
     returns-4

@@ -7,7 +7,7 @@ use borrow.Author.Needs.{needs}
 use Rattle.items.specs.declared.Item.the-variants.{Cut, Wrong, NamedGuest, NamedEndpoint, Start, Request, Access, Reset, Fetch}
 use Rattle.items.specs.Items.{front}
 use Rattle.playing.specs.Turns.{turnOf}
-use Rattle.turns.proofs.Reading.{works, front-fits, Most, asks-few}
+use Rattle.turns.proofs.Reading.{works, front-fits, asks-few}
 use Rattle.playing.proofs.Telling.{tells-idle, tells-turn, tells-full}
 use Rattle.turns.proofs.turn.Statement.{statement}
 use Rattle.turns.proofs.turn.Tie as tie

@@ -3,7 +3,7 @@ use mathlib.Core.Path.{refl, sym, _∙_}
 use mathlib.Core.Bool.{true, false, and-false}
 use native.Mathlib.Omega.{arith}
 use borrow.Author.Needs.{needs}
-use borrow.Author.Tests.{lt-ltb, le-ltb, le-leb, lt-leb, eqb-true}
+use borrow.Author.Tests.{lt-ltb, le-ltb, lt-leb, eqb-true}
 use lib.ListN.{length}
 use Rattle.laws.proofs.Tests.{both-left}
 use Rattle.layouts.specs.Parsed.{parsed, unless}

@@ -4,8 +4,8 @@ use Rattle.rules.specs.Sizes.{maxEndpoints}
 use mathlib.Core.Path.{sym}
 use native.Mathlib.Omega.{arith}
 use borrow.Author.Needs.{needs}
-use borrow.Author.Tests.{lt-ltb, le-ltb, not-false}
-use Rattle.playing.specs.Turns.{naming, turnOf, endpointTurn}
+use borrow.Author.Tests.{lt-ltb, le-ltb}
+use Rattle.playing.specs.Turns.{turnOf, endpointTurn}
 use Rattle.playing.proofs.Telling.{refused, accepted, tells-named}
 use Rattle.playing.proofs.named.endpoint.Statement.{statement}
 use Rattle.playing.proofs.named.endpoint.Tie as tie

@@ -5,8 +5,7 @@ use mathlib.Core.List.{[], _∷_, _++_, append-assoc}
 use native.Mathlib.Omega.{arith}
 use borrow.Author.Needs.{needs}
 use lib.ListN.{length, drop, length-set}
-use Rattle.printing.specs.Text.{decimal}
-use Rattle.printing.specs.Plain.{newline}
+use Rattle.printing.specs.Text.{newline, decimal}
 use Rattle.printing.proofs.Numbers.{decimal-one, decimal-more, tenth}
 use Rattle.printing.proofs.Places.{drop-set}
 use Rattle.printing.proofs.decimal.decimal_line.Statement.{statement}

@@ -6,8 +6,7 @@ use borrow.Author.Needs.{needs}
 use borrow.Author.Tests.{not-true, not-false, leb-true}
 use lib.ListN.{length, take, drop, length-drop}
 use lib.Seq.{take-all}
-use Rattle.printing.specs.Text.{decimal}
-use Rattle.printing.specs.Plain.{newline}
+use Rattle.printing.specs.Text.{newline, decimal}
 use Rattle.printing.proofs.Places.{Put, placed-room, room-placed, none-placed}
 use Rattle.printing.proofs.decimal.put_decimal.Statement.{statement}
 use Rattle.printing.proofs.decimal.put_decimal.Tie as tie

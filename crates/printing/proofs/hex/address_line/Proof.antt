@@ -5,8 +5,7 @@ use mathlib.Core.List.{[], _∷_, _++_, append-assoc}
 use native.Mathlib.Omega.{arith}
 use borrow.Author.Needs.{needs}
 use lib.ListN.{length, drop, length-set}
-use Rattle.printing.specs.Text.{address, hexDigits}
-use Rattle.printing.specs.Plain.{newline}
+use Rattle.printing.specs.Text.{newline, address, hexDigits}
 use Rattle.printing.proofs.Numbers.{hexDigits-next}
 use Rattle.printing.proofs.Places.{drop-set}
 use Rattle.printing.proofs.hex.address_line.Statement.{statement}

@@ -1,5 +1,4 @@
 use native.Mathlib.Omega.{arith}
-use borrow.Author.Needs.{needs}
 use borrow.Author.Tests.{lt-leb, le-leb, leb-true}
 use Prim.Native.Nat.{_+_, _-_}
 use lib.Dec.{leb}

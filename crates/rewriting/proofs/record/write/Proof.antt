@@ -3,20 +3,19 @@ use native.Mathlib.Omega.{arith}
 use borrow.Author.Needs.{needs}
 use mathlib.Core.Path.{_∙_}
 use Rattle.rules.proofs.Words.{length-records}
-use Rattle.rewriting.proofs.Words.{stored-record}
+use Rattle.rewriting.proofs.Words.{stored-record, stored-past}
 use Rattle.rewriting.proofs.record.write.Statement.{statement}
 use Rattle.rewriting.proofs.record.write.Tie as tie
 
-returns : tie.Need-returns
-returns c =
-    let s = c .before .before .before .before .before in
-    c .before .before .store .ensures ∙ stored-record (s .args .t .now) (s .args .i) (s .args .r) (s .pre)
+written : tie.Need-returns
+written c =
+    let a = c .before .before .before .before .before .before .args in
+    c .before .before .store .ensures ∙ stored-record (a .t .now) (a .i) (a .r) (omega (arith, length-records (a .t .now)))
+
+past : tie.Need-returns-2
+past c =
+    let a = c .before .before .args in
+    stored-past (a .t .now) (a .i) (a .r) (omega (arith, length-records (a .t .now)))
 
 pub write-spec : {M : Type 1} → statement M
-write-spec =
-    tie.close
-    (tie.spec
-    (λ c. omega (arith, length-records (c .before .before .args .t .now)))
-    (λ c κs. omega (arith, length-records (c .before .before .args .t .now)))
-    (λ c. search needs)
-    returns)
+write-spec = tie.close (tie.spec (λ c. search needs) (λ c κs. search needs) (λ c. search needs) written past)

@@ -2,8 +2,6 @@
 use native.Mathlib.Omega.{arith}
 use borrow.Author.Needs.{needs}
 use Prim.Native.Nat.{_≤_, _-_}
-use mathlib.Core.Path.{_≡_}
-use lib.ListN.{length}
 use Rattle.sound_logs.proofs.named.hints_of.Statement.{statement}
 use Rattle.sound_logs.proofs.named.hints_of.Tie as tie
 

@@ -8,7 +8,7 @@ use lib.Dec.{eqb}
 use lib.ListN.{drop}
 use Rattle.laws.specs.Lists.{any?, pickBy}
 use Rattle.rules.specs.Handlers.{listed}
-use Rattle.sound_records.proofs.Owned.{owned-on, owned-end}
+use Rattle.laws.proofs.Owned.{owned-on, owned-end}
 use Rattle.sound_logs.proofs.named.is_listed.Statement.{statement}
 use Rattle.sound_logs.proofs.named.is_listed.Tie as tie
 

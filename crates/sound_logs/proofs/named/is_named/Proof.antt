@@ -9,7 +9,7 @@ use lib.ListN.{getD}
 use borrow.Author.Tests.{eqb-true, eq-eqb}
 use Rattle.laws.proofs.Tests.{both-left, both-right}
 use Rattle.rules.specs.Handlers.{listed}
-use Rattle.sound_records.proofs.Owned.{owned-at}
+use Rattle.laws.proofs.Owned.{owned-at}
 use Rattle.sound_logs.proofs.named.is_named.Statement.{statement}
 use Rattle.sound_logs.proofs.named.is_named.Tie as tie
 

@@ -1,9 +1,8 @@
 use mathlib.Core.Path.{_≡_, refl}
-use native.Mathlib.Omega.{arith}
 use borrow.Author.Needs.{needs}
 use lib.ListN.{length}
 use Rattle.effects.specs.Flat.{device}
-use Rattle.lines.specs.Lines.{fetchLines}
+use Rattle.fetch_lines.specs.Lines.{fetchLines}
 use Rattle.printing.specs.Placing.{fetchRoom}
 use Rattle.turns.proofs.Counting.{fetch-fits}
 use Rattle.playing.proofs.Telling.{tells-call}

@@ -3,7 +3,7 @@ use mathlib.Core.List.{[]}
 use native.Mathlib.Omega.{arith}
 use borrow.Author.Needs.{needs}
 use borrow.Author.Tests.{not-true, not-false}
-use Rattle.printing.specs.Plain.{letterZ, numberLine}
+use Rattle.plain_lines.specs.Plain.{letterZ, numberLine}
 use Rattle.printing.specs.Placing.{lineRoom}
 use Rattle.playing.specs.Turns.{turnOf, resetTurn}
 use Rattle.playing.proofs.Telling.{refused, accepted, tells-call}

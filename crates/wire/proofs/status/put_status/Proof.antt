@@ -10,7 +10,7 @@ written : tie.Need-returns
 written c =
     let s = c .before .before .before .before .before in
     let w = s .before .before .args .writable .now in
-    rw (eq-eqb (length w) 4 (omega arith)) (c .before .before .copy-in .ensures ∙ rw (drop-of-length-le w {i = 4} (omega arith)))
+    rw (eq-eqb (length w) 4 (omega arith)) (c .before .before .copy-in .ensures ∙ rw (s .if1 .taken, drop-of-length-le w {i = 4} (omega arith)))
 
 kept : tie.Need-returns-2
 kept c = rw (ne-eqb (length (c .before .before .args .writable .now)) 4 (c .if1 .left))

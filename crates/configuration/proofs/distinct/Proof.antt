@@ -1,7 +1,0 @@
-use borrow.Author.Needs.{needs}
-use mathlib.Core.Path.{sym}
-use Rattle.configuration.proofs.distinct.Statement.{statement}
-use Rattle.configuration.proofs.distinct.Tie as tie
-
-pub distinct-spec : {M : Type 1} → statement M
-distinct-spec = tie.close (tie.spec (λ c κs. search needs) (λ c. sym (c .before .scattered .ensures (c .if1 .taken))) (λ c κs. search needs) (λ c. c .all-differ .ensures))

@@ -1,0 +1,40 @@
+// The lines of a fetch, put at a place of a lent buffer where that has room for them. The number of bytes put is given back:
+// 0 where there is not the room, and the buffer stays.
+mod records;
+
+use answers::count_of;
+use answers::number_of;
+use plain_lines::put_number;
+use printing::has_room;
+use printing::put_bytes;
+use printing::put_decimal;
+use records::fetch_fits;
+use records::put_records;
+use rules::Answer;
+ghost use mathlib.Core.Path.{_≡_};
+ghost use mathlib.Core.Bool.{cond};
+ghost use Rattle.fetch_lines.specs.Lines.{fetchLines, fetchFits};
+ghost use Rattle.printing.specs.Placing.{fetchRoom, written, writtenCount};
+
+// The room that is asked for a fetch's lines.
+const FETCH_ROOM: usize = 848;
+
+// Puts a fetch's number, its count and its records; nothing where they are above 16 or the buffer has them not all.
+pub fn put_fetch(out: &mut [u8], at: usize, a: Answer, buffer: &[u8]) -> usize
+    ensures { λ r. ⌜ (r ≡ cond (fetchFits a (now (buffer .entry))) (writtenCount fetchRoom at (fetchLines a (now (buffer .entry))) (now (out .entry))) 0) × (now (out .exit) ≡ cond (fetchFits a (now (buffer .entry))) (written fetchRoom at (fetchLines a (now (buffer .entry))) (now (out .entry))) (now (out .entry))) ⌝ }
+{
+    if !fetch_fits(a, buffer) {
+        return 0;
+    }
+    if !has_room(out.len(), at, FETCH_ROOM) {
+        return 0;
+    }
+    if number_of(a) != 0 {
+        return put_number(out, at, 70, a);
+    }
+    let head = [70, 32, 48, 32];
+    let next = put_bytes(out, at, &head);
+    let count = count_of(a);
+    let after = put_decimal(out, next, count as u64);
+    put_records(out, after, count, buffer) - at
+}

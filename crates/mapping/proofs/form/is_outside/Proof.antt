@@ -1,0 +1,12 @@
+-- `mapping::form::is_outside` meets its contract. Assumes nothing.
+use mathlib.Core.Path.{refl}
+use Rattle.rules.specs.Handlers.{outside}
+use Rattle.mapping.proofs.form.is_outside.Statement.{statement}
+use Rattle.mapping.proofs.form.is_outside.Tie as tie
+
+returns : tie.Need-returns
+unfolding outside
+returns c = refl
+
+pub is-outside-spec : {M : Type 1} → statement M
+is-outside-spec = tie.close (tie.spec returns)

@@ -1,0 +1,66 @@
+// MAP's steps 2 to 6: flags, order of the addresses, granularity, input range and window.
+ghost use mathlib.Core.Path.{_≡_};
+ghost use mathlib.Core.Bool.{_||_};
+ghost use mathlib.Core.List.{[], _∷_};
+ghost use Prim.Native.Nat.{_+_, _-_, _<_, _≤_};
+ghost use Rattle.rules.specs.Handlers.{outside};
+ghost use Rattle.effects.specs.Flat.{firstOf, formStatus};
+use forms::aligned;
+use rules::Guest;
+use rules::Mapping;
+use rules::Settings;
+
+// Whether address x lies outside those from a to b.
+fn is_outside(a: u64, b: u64, x: u64) -> bool
+    ensures { λ r. ⌜ r ≡ outside a b x ⌝ }
+{
+    (x < a) | (b < x)
+}
+
+// Whether one of the addresses from phys on, as many as from start to end, lies outside those from first to last.
+fn leaves_window(first: u64, last: u64, phys: u64, start: u64, end: u64) -> bool
+    requires { ⌜ start ≤ end ⌝ }
+    ensures { λ x. ⌜ x ≡ (outside first last phys || outside first last (phys + end - start)) ⌝ }
+{
+    if last < phys {
+        return true;
+    }
+    (phys < first) | (last - phys < end - start)
+}
+
+// The status of MAP's steps 4 to 6.
+fn first_place(grain: bool, input: bool, window: bool) -> u8
+    ensures { λ x. ⌜ x ≡ firstOf ((grain, 5) ∷ (input, 5) ∷ (window, 7) ∷ []) ⌝ }
+{
+    if grain {
+        return 5;
+    }
+    if input {
+        return 5;
+    }
+    if window {
+        return 7;
+    }
+    0
+}
+
+// The status of MAP's steps 2 to 6 for a guest.
+pub(crate) fn form_status(s: Settings, g: Guest, r: Mapping) -> u8
+    requires { ⌜ g .0 < 4 ⌝ }
+    ensures { λ x. ⌜ x ≡ formStatus s g r ⌝ }
+{
+    if r.flags > 3 {
+        return 4;
+    }
+    if r.end <= r.start {
+        return 5;
+    }
+    let i = g.0 as usize;
+    let first = s.firsts[i];
+    let last = s.lasts[i];
+    let grain = aligned(s.mask, r.start, r.end);
+    let low = is_outside(s.input.start, s.input.end, r.start);
+    let high = is_outside(s.input.start, s.input.end, r.end);
+    let window = leaves_window(first, last, r.phys, r.start, r.end);
+    first_place(!grain, low | high, window)
+}

@@ -1,0 +1,82 @@
+// MAP, on the state's arrays and the table's words.
+mod form;
+
+ghost use mathlib.Core.Path.{_≡_};
+ghost use mathlib.Core.List.{[], _∷_};
+ghost use Prim.Native.Nat.{_<_};
+ghost use Rattle.effects.specs.Flat.{device, firstOf, mapStatus, mapPlaced};
+ghost use Rattle.effects.specs.Outcome.{outcome};
+use effects::Handled;
+use form::form_status;
+use rules::Domain;
+use rules::Guest;
+use rules::Mapping;
+use rules::State;
+
+// The status of MAP by its steps, where form is that of steps 2 to 6.
+fn first_map(missing: bool, failing: bool, form: u8, meets: bool, full: bool) -> u8
+    ensures { λ x. ⌜ x ≡ firstOf ((missing, 6) ∷ (failing, form) ∷ (meets, 4) ∷ (full, 8) ∷ []) ⌝ }
+{
+    if missing {
+        return 6;
+    }
+    if failing {
+        return form;
+    }
+    if meets {
+        return 4;
+    }
+    if full {
+        return 8;
+    }
+    0
+}
+
+// The same number.
+fn wide(x: u32) -> usize
+    ensures { λ r. ⌜ r ≡ x ⌝ }
+{
+    x as usize
+}
+
+// The status of MAP for a guest, a domain and a record.
+fn map_status(s: State, t: &[u64], g: Guest, d: Domain, r: Mapping) -> u8
+    requires { ⌜ g .0 < 4 ⌝ }
+    ensures { λ x. ⌜ x ≡ mapStatus (device s (now (t .entry))) g d r ⌝ }
+{
+    let exists = attachments::domain_exists(&s.owners, &s.attached, &s.domains, g, d);
+    let form = form_status(s.settings, g, r);
+    let meets = overlaps::overlaps(t, s.live, r);
+    let held = holdings::held(t, s.live, g);
+    let shares = s.settings.shares;
+    let limit = shares[g.0 as usize];
+    first_map(!exists, form != 0, form, meets, wide(limit) <= held)
+}
+
+// MAP for a guest: the record goes into the table where every step passes. Nothing is done where the guest or one
+// record more has no place, which a sound state rules out.
+pub fn map(s: State, t: &mut [u64], g: Guest, d: Domain, r: Mapping) -> Handled
+    ensures { λ x. ⌜ outcome x (now (t .exit)) ≡ mapPlaced (device s (now (t .entry))) g d r ⌝ }
+{
+    let live = s.live;
+    if !((g.0 < 4) & (live < usize::MAX)) {
+        return Handled {
+            status: 0,
+            state: s,
+        };
+    }
+    let status = map_status(s, t, g, d, r);
+    if status != 0 {
+        return Handled {
+            status: status,
+            state: s,
+        };
+    }
+    insertion::insert(t, live, r);
+    let mut next = s;
+    next.live = live + 1;
+    Handled {
+        status: 0,
+        state: next,
+    }
+}

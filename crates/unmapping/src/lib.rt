@@ -1,0 +1,58 @@
+// UNMAP, on the state's arrays and the table's words.
+ghost use mathlib.Core.Path.{_≡_};
+ghost use mathlib.Core.List.{[], _∷_};
+ghost use Rattle.effects.specs.Flat.{device, firstOf, unmapStatus, unmapFlat};
+ghost use Rattle.effects.specs.Outcome.{outcome};
+use effects::Handled;
+use moves::key_of;
+use moves::remove;
+use rules::Domain;
+use rules::Guest;
+use rules::State;
+
+// The status of UNMAP by its steps.
+fn first_unmap(missing: bool, reserved: bool, order: bool, split: bool) -> u8
+    ensures { λ x. ⌜ x ≡ firstOf ((missing, 6) ∷ (reserved, 4) ∷ (order, 5) ∷ (split, 5) ∷ []) ⌝ }
+{
+    if missing {
+        return 6;
+    }
+    if reserved {
+        return 4;
+    }
+    if order {
+        return 5;
+    }
+    if split {
+        return 5;
+    }
+    0
+}
+
+// The status of UNMAP for a guest, a domain and the addresses from a to b.
+fn unmap_status(s: State, t: &[u64], g: Guest, d: Domain, a: u64, b: u64, reserved: u64) -> u8
+    ensures { λ x. ⌜ x ≡ unmapStatus (device s (now (t .entry))) g d a b reserved ⌝ }
+{
+    let exists = attachments::domain_exists(&s.owners, &s.attached, &s.domains, g, d);
+    let split = overlaps::straddled(t, s.live, key_of(g, d), a, b);
+    first_unmap(!exists, reserved != 0, b < a, split)
+}
+
+// UNMAP for a guest: the domain's records inside the addresses from a to b go where every step passes.
+pub fn unmap(s: State, t: &mut [u64], g: Guest, d: Domain, a: u64, b: u64, reserved: u64) -> Handled
+    ensures { λ x. ⌜ outcome x (now (t .exit)) ≡ unmapFlat (device s (now (t .entry))) g d a b reserved ⌝ }
+{
+    let status = unmap_status(s, t, g, d, a, b, reserved);
+    if status != 0 {
+        return Handled {
+            status: status,
+            state: s,
+        };
+    }
+    let key = key_of(g, d);
+    let next = remove(s, t, key, key, a, b);
+    Handled {
+        status: 0,
+        state: next,
+    }
+}
