@@ -3,6 +3,7 @@ ghost use mathlib.Core.Path.{_≡_};
 ghost use mathlib.Core.Option.{some};
 ghost use Prim.Native.Nat.{ℕ, _+_, _-_, _≤_};
 ghost use lib.ListN.{take};
+ghost use Rattle.rules.specs.Sizes.{maxEndpoints};
 ghost use Rattle.rules.specs.declared.Mapping.{Mapping};
 ghost use Rattle.rules.specs.Table.{records};
 ghost use Rattle.rules.specs.Access.{lookup};
@@ -13,6 +14,7 @@ use rules::Answer;
 use rules::Domain;
 use rules::Endpoint;
 use rules::Guest;
+use rules::sizes::MAX_ENDPOINTS;
 
 // The answer of an access of this kind under a domain's key.
 fn translate(t: &[u64], live: usize, key: u64, address: u64, kind: u8) -> Answer
@@ -28,17 +30,17 @@ fn translate(t: &[u64], live: usize, key: u64, address: u64, kind: u8) -> Answer
 // The answer of an access, from what it reads alone.
 pub(crate) fn decide<'a>(
     listed: usize,
-    endpoints: &'a [u32; 32],
-    owners: &'a [u8; 32],
-    attached: &'a [u8; 32],
-    domains: &'a [u32; 32],
+    endpoints: &'a [u32; MAX_ENDPOINTS],
+    owners: &'a [u8; MAX_ENDPOINTS],
+    attached: &'a [u8; MAX_ENDPOINTS],
+    domains: &'a [u32; MAX_ENDPOINTS],
     live: usize,
     t: &'a [u64],
     e: Endpoint,
     address: u64,
     kind: u8,
 ) -> Answer
-    requires { ⌜ listed ≤ 32 ⌝ }
+    requires { ⌜ listed ≤ maxEndpoints ⌝ }
     requires { ⌜ ((key : ℕ) (r : Mapping) → lookup key address kind (take live (records (now t))) ≡ some r → address - r .start + r .phys ≤ 18446744073709551615) ⌝ }
     ensures { λ r. ⌜ r ≡ decided listed (now (endpoints .entry)) (now (owners .entry)) (now (attached .entry)) (now (domains .entry)) (take live (records (now (t .entry)))) e address kind ⌝ }
 {

@@ -14,6 +14,9 @@ use rules::Answer;
 use rules::Endpoint;
 use rules::Settings;
 use rules::State;
+use rules::sizes::FAULT_PLACES;
+use rules::sizes::MAX_ENDPOINTS;
+use rules::sizes::MAX_GUESTS;
 
 // The answer of an access of endpoint e to an address on the state of these pieces; kind 0 is a read, any other a write.
 // It changes nothing and copies nothing: what a blocked access logs is log_blocked's. For whoever calls, the lengths of the
@@ -22,16 +25,16 @@ pub fn access_answer<'a>(
     settings: Settings,
     listed: usize,
     live: usize,
-    endpoints: &'a [u32; 32],
-    owners: &'a [u8; 32],
-    attached: &'a [u8; 32],
-    domains: &'a [u32; 32],
-    logged: &'a [usize; 4],
-    lost: &'a [u32; 4],
-    reasons: &'a [u8; 64],
-    flags: &'a [u32; 64],
-    sources: &'a [u32; 64],
-    addresses: &'a [u64; 64],
+    endpoints: &'a [u32; MAX_ENDPOINTS],
+    owners: &'a [u8; MAX_ENDPOINTS],
+    attached: &'a [u8; MAX_ENDPOINTS],
+    domains: &'a [u32; MAX_ENDPOINTS],
+    logged: &'a [usize; MAX_GUESTS],
+    lost: &'a [u32; MAX_GUESTS],
+    reasons: &'a [u8; FAULT_PLACES],
+    flags: &'a [u32; FAULT_PLACES],
+    sources: &'a [u32; FAULT_PLACES],
+    addresses: &'a [u64; FAULT_PLACES],
     t: &'a [u64],
     e: Endpoint,
     address: u64,

@@ -5,6 +5,7 @@ ghost use mathlib.Core.Path.{_≡_};
 ghost use Rattle.attachments.specs.Changes.{attachedAt};
 use rules::Domain;
 use rules::State;
+use rules::sizes::MAX_ENDPOINTS;
 pub use search::domain_exists;
 pub use search::place_of;
 
@@ -13,7 +14,7 @@ pub fn attach_at(s: State, i: usize, flag: u8, d: Domain) -> State
     ensures { λ r. ⌜ r ≡ attachedAt s i flag (d .0) ⌝ }
 {
     let mut next = s;
-    if i < 32 {
+    if i < MAX_ENDPOINTS {
         next.attached[i] = flag;
         next.domains[i] = d.0;
     }

@@ -9,6 +9,9 @@ ghost use Rattle.effects.specs.Flat.{device};
 ghost use Rattle.effects.specs.Checked.{Shaped};
 use rules::Settings;
 use rules::State;
+use rules::sizes::FAULT_PLACES;
+use rules::sizes::MAX_ENDPOINTS;
+use rules::sizes::MAX_GUESTS;
 
 // Whether state and table are sound; and, for whoever calls, what the types of the state's arrays fix.
 pub fn is_sound(s: State, t: &[u64]) -> bool
@@ -53,16 +56,16 @@ pub fn lent_sound<'a>(
     settings: Settings,
     listed: usize,
     live: usize,
-    endpoints: &'a [u32; 32],
-    owners: &'a [u8; 32],
-    attached: &'a [u8; 32],
-    domains: &'a [u32; 32],
-    logged: &'a [usize; 4],
-    lost: &'a [u32; 4],
-    reasons: &'a [u8; 64],
-    flags: &'a [u32; 64],
-    sources: &'a [u32; 64],
-    addresses: &'a [u64; 64],
+    endpoints: &'a [u32; MAX_ENDPOINTS],
+    owners: &'a [u8; MAX_ENDPOINTS],
+    attached: &'a [u8; MAX_ENDPOINTS],
+    domains: &'a [u32; MAX_ENDPOINTS],
+    logged: &'a [usize; MAX_GUESTS],
+    lost: &'a [u32; MAX_GUESTS],
+    reasons: &'a [u8; FAULT_PLACES],
+    flags: &'a [u32; FAULT_PLACES],
+    sources: &'a [u32; FAULT_PLACES],
+    addresses: &'a [u64; FAULT_PLACES],
     t: &'a [u64],
 ) -> bool
     ensures { λ r. ⌜ (r ≡ sound (deviceOf settings listed live (now (endpoints .entry)) (now (owners .entry)) (now (attached .entry)) (now (domains .entry)) (now (logged .entry)) (now (lost .entry)) (now (reasons .entry)) (now (flags .entry)) (now (sources .entry)) (now (addresses .entry)) (now (t .entry)))) × Shaped (stateWith settings listed live (now (endpoints .entry)) (now (owners .entry)) (now (attached .entry)) (now (domains .entry)) (now (logged .entry)) (now (lost .entry)) (now (reasons .entry)) (now (flags .entry)) (now (sources .entry)) (now (addresses .entry))) × ((i : ℕ) → last settings i ≤ 18446744073709551615) ⌝ }

@@ -7,7 +7,11 @@ ghost use lib.ListN.{length, getD, take, drop};
 ghost use Rattle.laws.specs.Lists.{all?, pairwise};
 ghost use Rattle.rules.specs.Configuration.{goodLists};
 use rules::Settings;
+use rules::sizes::MAX_ENDPOINTS;
 use state::least;
+
+// The slots for endpoints, one for each remainder of an endpoint's number.
+const SLOTS: usize = 64;
 
 // Whether the first n owners are below the guest count.
 fn owners_below(guests: usize, n: usize, owners: &[u8]) -> bool
@@ -46,12 +50,12 @@ fn all_differ(n: usize, endpoints: &[u32]) -> bool
     ok
 }
 
-// True only where no two of the first n endpoints are the same: their remainders by 64 differ already.
+// True only where no two of the first n endpoints are the same: their remainders differ already.
 fn scattered(n: usize, endpoints: &[u32]) -> bool
     requires { ⌜ n ≤ length (now endpoints) ⌝ }
     ensures { λ r. ⌜ (r ≡ true → pairwise (λ a b. not (eqb a b)) (take n (now (endpoints .entry))) ≡ true) ⌝ }
 {
-    let mut seen: [bool; 64] = [false; 64];
+    let mut seen: [bool; SLOTS] = [false; SLOTS];
     let mut repeated = false;
     for i in 0..n {
         let slot = (endpoints[i] % 64) as usize;
@@ -81,7 +85,7 @@ pub fn good_lists(s: Settings, n: usize, endpoints: &[u32], owners: &[u8]) -> bo
     if a != b {
         return false;
     }
-    if a > 32 {
+    if a > MAX_ENDPOINTS {
         return false;
     }
     owners_below(s.guests, a, owners) & distinct(a, endpoints)

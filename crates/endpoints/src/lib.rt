@@ -12,6 +12,11 @@ use rules::Domain;
 use rules::Endpoint;
 use rules::Guest;
 use rules::State;
+use rules::sizes::MAX_ENDPOINTS;
+use rules::statuses::INVAL;
+use rules::statuses::NOENT;
+use rules::statuses::OK;
+use rules::statuses::RANGE;
 
 // Whether the endpoint at place i is among the first n and guest g's.
 fn owned_at(n: usize, owners: &[u8], g: Guest, i: usize) -> bool
@@ -43,7 +48,7 @@ fn first_of(a: bool, x: u8, b: bool, y: u8, c: bool, z: u8) -> u8
     if c {
         return z;
     }
-    0
+    OK
 }
 
 // The status of an ATTACH of the endpoint at place i.
@@ -53,7 +58,7 @@ fn attach_status(s: State, g: Guest, d: Domain, i: usize, reserved: u64) -> u8
     let settings = s.settings;
     let owned = owned_at(s.listed, &s.owners, g, i);
     let beyond = is_outside(settings.domains.start, settings.domains.end, d.0);
-    first_of(reserved != 0, 4, !owned, 6, beyond, 5)
+    first_of(reserved != 0, INVAL, !owned, NOENT, beyond, RANGE)
 }
 
 // ATTACH: the endpoint e to domain d.
@@ -62,12 +67,12 @@ pub fn attach(s: State, t: &mut [u64], g: Guest, d: Domain, e: Endpoint, reserve
 {
     let i = attachments::place_of(s.listed, &s.endpoints, e);
     let status = attach_status(s, g, d, i, reserved);
-    if status != 0 {
+    if status != OK {
         return Handled { status, state: s };
     }
     let next = moves::move_to(s, t, g, i, d);
     Handled {
-        status: 0,
+        status: OK,
         state: next,
     }
 }
@@ -76,7 +81,7 @@ pub fn attach(s: State, t: &mut [u64], g: Guest, d: Domain, e: Endpoint, reserve
 fn is_in(s: State, i: usize, d: Domain) -> bool
     ensures { λ r. ⌜ r ≡ eqb (getD (s .attached) i 0) 1 && eqb (getD (s .domains) i 0) (d .0) ⌝ }
 {
-    if 32 <= i {
+    if MAX_ENDPOINTS <= i {
         return false;
     }
     (s.attached[i] == 1) & (s.domains[i] == d.0)
@@ -88,7 +93,7 @@ fn detach_status(s: State, g: Guest, d: Domain, i: usize, reserved: u64) -> u8
 {
     let owned = owned_at(s.listed, &s.owners, g, i);
     let there = is_in(s, i, d);
-    first_of(reserved != 0, 4, !owned, 6, !there, 4)
+    first_of(reserved != 0, INVAL, !owned, NOENT, !there, INVAL)
 }
 
 // DETACH: the endpoint e from domain d.
@@ -97,12 +102,12 @@ pub fn detach(s: State, t: &mut [u64], g: Guest, d: Domain, e: Endpoint, reserve
 {
     let i = attachments::place_of(s.listed, &s.endpoints, e);
     let status = detach_status(s, g, d, i, reserved);
-    if status != 0 {
+    if status != OK {
         return Handled { status, state: s };
     }
     let next = moves::leave(s, t, g, i, d);
     Handled {
-        status: 0,
+        status: OK,
         state: next,
     }
 }

@@ -1,5 +1,5 @@
 -- "Journal and its output": what the lines of a fetch say. Every line ends in a newline.
-use Prim.Native.Nat.{ℕ, zero, suc, _*_}
+use Prim.Native.Nat.{ℕ, zero, suc, _+_, _*_}
 use mathlib.Core.Bool.{Bool, cond, _&&_}
 use mathlib.Core.List.{List, [], _∷_, _++_}
 use lib.Dec.{eqb, leb}
@@ -8,7 +8,16 @@ use Rattle.rules.specs.declared.Answer.{Answer}
 use Rattle.rules.specs.Sizes.{maxFaults, faultSize}
 use Rattle.rules.specs.Answers.{number, fetchedCount}
 use Rattle.printing.specs.Text.{newline, decimal, hexBytes}
+use Rattle.printing.specs.Placing.{lineRoom}
 use Rattle.plain_lines.specs.Plain.{space, letterF, numberLine}
+
+-- the bytes of a record's line: two digits for each of the record's, and the newline
+abbrev pub recordLine : ℕ
+recordLine = 2 * faultSize + 1
+
+-- the bytes that a fetch's lines may take: the first line, and one for each record
+abbrev pub fetchRoom : ℕ
+fetchRoom = lineRoom + recordLine * maxFaults
 
 -- "then a line for each record": the first n records of a buffer
 abbrev pub recordLines : ℕ → List ℕ → List ℕ

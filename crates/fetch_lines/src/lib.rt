@@ -4,22 +4,25 @@ mod records;
 
 use answers::count_of;
 use answers::number_of;
+use plain_lines::LINE_ROOM;
 use plain_lines::put_number;
 use printing::has_room;
 use printing::put_bytes;
 use printing::put_decimal;
+use records::RECORD_LINE;
 use records::fetch_fits;
 use records::put_records;
 use rules::Answer;
+use rules::sizes::MAX_FAULTS;
 ghost use mathlib.Core.Path.{_≡_};
 ghost use mathlib.Core.Bool.{cond};
-ghost use Rattle.fetch_lines.specs.Lines.{fetchLines, fetchFits};
-ghost use Rattle.printing.specs.Placing.{fetchRoom, written, writtenCount};
+ghost use Rattle.fetch_lines.specs.Lines.{fetchRoom, fetchLines, fetchFits};
+ghost use Rattle.printing.specs.Placing.{written, writtenCount};
 
 // The room that is asked for a fetch's lines.
-const FETCH_ROOM: usize = 848;
+pub const FETCH_ROOM: usize = LINE_ROOM + RECORD_LINE * MAX_FAULTS;
 
-// Puts a fetch's number, its count and its records; nothing where they are above 16 or the buffer has them not all.
+// Puts a fetch's number, its count and its records; nothing where they are more than a log has room for, or the buffer has them not all.
 pub fn put_fetch(out: &mut [u8], at: usize, a: Answer, buffer: &[u8]) -> usize
     ensures { λ r. ⌜ (r ≡ cond (fetchFits a (now (buffer .entry))) (writtenCount fetchRoom at (fetchLines a (now (buffer .entry))) (now (out .entry))) 0) × (now (out .exit) ≡ cond (fetchFits a (now (buffer .entry))) (written fetchRoom at (fetchLines a (now (buffer .entry))) (now (out .entry))) (now (out .entry))) ⌝ }
 {

@@ -3,32 +3,38 @@ use answers::count_of;
 use printing::hex_of;
 use printing::put_bytes;
 use rules::Answer;
+use rules::sizes::FAULT_SIZE;
+use rules::sizes::MAX_FAULTS;
 ghost use mathlib.Core.Path.{_≡_};
 ghost use mathlib.Core.List.{_∷_, [], _++_};
 ghost use Prim.Native.Nat.{_+_, _*_, _≤_};
 ghost use lib.ListN.{length};
-ghost use Rattle.fetch_lines.specs.Lines.{recordLines, fetchFits};
+ghost use Rattle.rules.specs.Sizes.{maxFaults, faultSize};
+ghost use Rattle.fetch_lines.specs.Lines.{recordLine, recordLines, fetchFits};
 ghost use Rattle.printing.specs.Text.{newline, hexBytes};
 ghost use Rattle.printing.specs.Placing.{placed};
 
-// Whether a fetch gave at most 16 records, and the buffer has them all.
+// The bytes of a record's line: two digits for each of the record's, and a newline.
+pub(crate) const RECORD_LINE: usize = 2 * FAULT_SIZE + 1;
+
+// Whether a fetch gave no more records than a log has room for, and the buffer has them all.
 pub(crate) fn fetch_fits(a: Answer, buffer: &[u8]) -> bool
     ensures { λ r. ⌜ r ≡ fetchFits a (now (buffer .entry)) ⌝ }
 {
     let count = count_of(a);
-    if 16 < count {
+    if MAX_FAULTS < count {
         return false;
     }
-    24 * count <= buffer.len()
+    FAULT_SIZE * count <= buffer.len()
 }
 
-// The 24 bytes of a fault record in 48 hex digits and a newline.
-fn record_line(bytes: &[u8]) -> [u8; 49]
-    requires { ⌜ length (now bytes) ≡ 24 ⌝ }
+// The bytes of a fault record in hex, and a newline.
+fn record_line(bytes: &[u8]) -> [u8; RECORD_LINE]
+    requires { ⌜ length (now bytes) ≡ faultSize ⌝ }
     ensures { λ r. ⌜ r ≡ hexBytes (now (bytes .entry)) ++ (newline ∷ []) ⌝ }
 {
-    let mut line = [10; 49];
-    let mut i: usize = 24;
+    let mut line = [10; RECORD_LINE];
+    let mut i = FAULT_SIZE;
     while 0 < i {
         i -= 1;
         let digits = hex_of(bytes[i]);
@@ -40,13 +46,13 @@ fn record_line(bytes: &[u8]) -> [u8; 49]
 
 // A line for each of the first `count` records of a buffer, put at a place; the place after them is given back.
 pub(crate) fn put_records(out: &mut [u8], at: usize, count: usize, buffer: &[u8]) -> usize
-    requires { ⌜ (count ≤ 16) × (24 * count ≤ length (now buffer)) × (at + 49 * count ≤ length (now out)) ⌝ }
+    requires { ⌜ (count ≤ maxFaults) × (faultSize * count ≤ length (now buffer)) × (at + recordLine * count ≤ length (now out)) ⌝ }
     ensures { λ r. ⌜ (r ≡ at + length (recordLines count (now (buffer .entry)))) × (now (out .exit) ≡ placed at (recordLines count (now (buffer .entry))) (now (out .entry))) ⌝ }
 {
     let mut next = at;
     for i in 0..count {
-        let start = 24 * i;
-        let end = start + 24;
+        let start = FAULT_SIZE * i;
+        let end = start + FAULT_SIZE;
         let line = record_line(&buffer[start..end]);
         next = put_bytes(out, next, &line);
     }

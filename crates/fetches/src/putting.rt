@@ -2,24 +2,22 @@
 ghost use mathlib.Core.Path.{_≡_};
 ghost use Prim.Native.Nat.{_*_, _<_, _≤_};
 ghost use lib.ListN.{length};
+ghost use Rattle.rules.specs.Sizes.{maxGuests, maxFaults, faultSize};
 ghost use Rattle.effects.specs.Flat.{fetchCount, fetchBytes};
 use rules::Endpoint;
 use rules::Fault;
 use rules::Guest;
 use rules::State;
-
-// The bytes of a fault record.
-const FAULT_SIZE: usize = 24;
-
-// The fault records of a guest's log.
-const LOG_SIZE: usize = 16;
+use rules::sizes::FAULT_SIZE;
+use rules::sizes::MAX_FAULTS;
+use rules::sizes::MAX_GUESTS;
 
 // How many of a guest's faults are held and fit whole into so many bytes.
 pub(crate) fn fetch_count(s: State, g: Guest, bytes: usize) -> usize
     ensures { λ r. ⌜ r ≡ fetchCount s g bytes ⌝ }
 {
     let guest = g.0 as usize;
-    if guest >= 4 {
+    if guest >= MAX_GUESTS {
         return 0;
     }
     let held = s.logged[guest];
@@ -29,10 +27,10 @@ pub(crate) fn fetch_count(s: State, g: Guest, bytes: usize) -> usize
 
 // The buffer with the records of a guest's n oldest faults one after another; its later bytes stay.
 pub(crate) fn put_faults(s: State, g: Guest, n: usize, buffer: &mut [u8])
-    requires { ⌜ (g .0 < 4) × (n ≤ 16) × (24 * n ≤ length (now buffer)) ⌝ }
+    requires { ⌜ (g .0 < maxGuests) × (n ≤ maxFaults) × (faultSize * n ≤ length (now buffer)) ⌝ }
     ensures { λ _. ⌜ now (buffer .exit) ≡ fetchBytes s g n (now (buffer .entry)) ⌝ }
 {
-    let first = LOG_SIZE * (g.0 as usize);
+    let first = MAX_FAULTS * (g.0 as usize);
     for j in 0..n {
         let at = first + j;
         let f = Fault {

@@ -6,11 +6,9 @@ ghost use Rattle.rules.specs.Table.{records, guestOf};
 ghost use Rattle.rules.specs.Guests.{recordsOf};
 use rules::Guest;
 use rules::Mapping;
+use rules::sizes::DOMAIN_SPAN;
 use table::bounded;
 use table::get;
-
-// The keys of a guest's domains: a key is guest times this plus domain.
-const DOMAIN_SPAN: u64 = 4294967296;
 
 // The same number.
 fn wide(x: u8) -> u64

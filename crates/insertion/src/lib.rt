@@ -8,7 +8,7 @@ ghost use Rattle.table.specs.Records.{spare};
 ghost use Rattle.insertion.specs.Inserted.{placeOf, insertAt, insertedWords};
 use rewriting::write;
 use rules::Mapping;
-use table::RECORD_WORDS;
+use rules::sizes::RECORD_WORDS;
 
 // Whether r goes before s.
 fn precedes(r: Mapping, s: Mapping) -> bool

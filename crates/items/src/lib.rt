@@ -8,6 +8,7 @@ use rules::DomainRange;
 use rules::Endpoint;
 use rules::Guest;
 use rules::InputRange;
+use rules::sizes::MAX_FAULTS;
 use wire::fields::field_at;
 
 // A guest: its share, and its window's first and last address.
@@ -116,12 +117,15 @@ fn access_item(s: &[u8]) -> Item
     Item::Access(endpoint_field(s), field_at(s, 5, 8), s[13])
 }
 
-// A fetch, if it asks for 16 records at most.
+// The most faults that a fetch may ask for.
+const MAX_ASKED: u8 = MAX_FAULTS as u8;
+
+// A fetch, if it asks for no more faults than a log has room for.
 fn fetch_item(s: &[u8]) -> Item
     requires { ⌜ (3 ≤ length (now s)) × (kindOf (now s) ≡ 35) ⌝ }
     ensures { λ r. ⌜ r ≡ taken (now (s .entry)) ⌝ }
 {
-    if 16 < s[2] {
+    if MAX_ASKED < s[2] {
         return Item::Wrong;
     }
     Item::Fetch(Guest(s[1]), s[2] as usize)

@@ -7,7 +7,8 @@ use native.Mathlib.Nat.{zero-add, add-zero, add-assoc}
 use native.Mathlib.Omega.{arith}
 use lib.ListN.{length, take, drop, length-append, length-drop, take-append-drop}
 use lib.Seq.{length-take-le, take-append-add, drop-append-add, take-append-seam, drop-append-seam, drop-drop}
-use Rattle.printing.specs.Placing.{placed, fetchRoom}
+use Rattle.printing.specs.Placing.{placed}
+use Rattle.fetch_lines.specs.Lines.{fetchRoom}
 use Rattle.playing.specs.declared.player.Player.{Player}
 use Rattle.playing.specs.declared.player.Turned.{Turned}
 use Rattle.playing.specs.Turns.{Turn, turn}

@@ -12,7 +12,7 @@ use borrow.Author.Tests.{eqb-true, eqb-false, ne-eqb, not-true}
 use Rattle.laws.proofs.Tests.{either-way, true-false}
 use Rattle.rules.specs.Sizes.{maxGuests, maxEndpoints}
 use Rattle.plain_lines.specs.Plain.{badLine, endLine}
-use Rattle.printing.specs.Placing.{fetchRoom}
+use Rattle.fetch_lines.specs.Lines.{fetchRoom}
 use Rattle.items.specs.declared.Item.{Item}
 use Rattle.items.specs.declared.Item.the-variants.{Cut, Wrong, NamedGuest, NamedEndpoint, Start, Request, Access, Reset, Fetch}
 use Rattle.playing.specs.declared.player.Player.{Player}

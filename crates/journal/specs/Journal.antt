@@ -7,7 +7,7 @@ use lib.Dec.{ltb, eqb}
 use lib.ListN.{length, drop, replicate}
 use Rattle.rules.specs.Sizes.{tableWords}
 use Rattle.plain_lines.specs.Plain.{badLine, endLine}
-use Rattle.printing.specs.Placing.{fetchRoom}
+use Rattle.fetch_lines.specs.Lines.{fetchRoom}
 use Rattle.playing.specs.declared.player.Player.{Player}
 use Rattle.playing.specs.Turns.{Turn, turn, fresh, idle}
 

@@ -5,19 +5,22 @@ ghost use Rattle.logging.specs.Changes.{faultLogged};
 use rules::Fault;
 use rules::Guest;
 use rules::State;
+use rules::sizes::MAX_FAULTS;
+use rules::sizes::MAX_GUESTS;
+use rules::sizes::MAX_LOST;
 
 // The state with a fault logged for a guest: in its log where there is room, else in its lost count.
 pub fn log_fault(s: State, g: Guest, f: Fault) -> State
     ensures { λ r. ⌜ r ≡ faultLogged s (g .0) f ⌝ }
 {
     let guest = g.0 as usize;
-    if guest >= 4 {
+    if guest >= MAX_GUESTS {
         return s;
     }
     let n = s.logged[guest];
     let mut next = s;
-    if n < 16 {
-        let at = 16 * guest + n;
+    if n < MAX_FAULTS {
+        let at = MAX_FAULTS * guest + n;
         next.reasons[at] = f.reason;
         next.flags[at] = f.flags;
         next.sources[at] = f.endpoint.0;
@@ -26,18 +29,18 @@ pub fn log_fault(s: State, g: Guest, f: Fault) -> State
         return next;
     }
     let k = s.lost[guest];
-    if k < 65535 {
+    if k < MAX_LOST {
         next.lost[guest] = k + 1;
     }
     next
 }
 
 // A guest's lost count, 0 for a guest number that there is not.
-pub fn lost_of(lost: [u32; 4], g: Guest) -> u32
+pub fn lost_of(lost: [u32; MAX_GUESTS], g: Guest) -> u32
     ensures { λ r. ⌜ r ≡ getD lost (g .0) 0 ⌝ }
 {
     let i = g.0 as usize;
-    if 4 <= i {
+    if MAX_GUESTS <= i {
         return 0;
     }
     lost[i]

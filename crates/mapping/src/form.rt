@@ -3,12 +3,18 @@ ghost use mathlib.Core.Path.{_≡_};
 ghost use mathlib.Core.Bool.{_||_};
 ghost use mathlib.Core.List.{[], _∷_};
 ghost use Prim.Native.Nat.{_+_, _-_, _<_, _≤_};
+ghost use Rattle.rules.specs.Sizes.{maxGuests};
+ghost use Rattle.rules.specs.Requests.{RANGE, FAULT};
 ghost use Rattle.rules.specs.Handlers.{outside};
 ghost use Rattle.effects.specs.Flat.{firstOf, formStatus};
 use forms::aligned;
 use rules::Guest;
 use rules::Mapping;
 use rules::Settings;
+use rules::statuses::FAULT;
+use rules::statuses::INVAL;
+use rules::statuses::OK;
+use rules::statuses::RANGE;
 
 // Whether address x lies outside those from a to b.
 fn is_outside(a: u64, b: u64, x: u64) -> bool
@@ -30,30 +36,30 @@ fn leaves_window(first: u64, last: u64, phys: u64, start: u64, end: u64) -> bool
 
 // The status of MAP's steps 4 to 6.
 fn first_place(grain: bool, input: bool, window: bool) -> u8
-    ensures { λ x. ⌜ x ≡ firstOf ((grain, 5) ∷ (input, 5) ∷ (window, 7) ∷ []) ⌝ }
+    ensures { λ x. ⌜ x ≡ firstOf ((grain, RANGE) ∷ (input, RANGE) ∷ (window, FAULT) ∷ []) ⌝ }
 {
     if grain {
-        return 5;
+        return RANGE;
     }
     if input {
-        return 5;
+        return RANGE;
     }
     if window {
-        return 7;
+        return FAULT;
     }
-    0
+    OK
 }
 
 // The status of MAP's steps 2 to 6 for a guest.
 pub(crate) fn form_status(s: Settings, g: Guest, r: Mapping) -> u8
-    requires { ⌜ g .0 < 4 ⌝ }
+    requires { ⌜ g .0 < maxGuests ⌝ }
     ensures { λ x. ⌜ x ≡ formStatus s g r ⌝ }
 {
     if r.flags > 3 {
-        return 4;
+        return INVAL;
     }
     if r.end <= r.start {
-        return 5;
+        return RANGE;
     }
     let i = g.0 as usize;
     let first = s.firsts[i];

@@ -4,6 +4,8 @@ mod form;
 ghost use mathlib.Core.Path.{_≡_};
 ghost use mathlib.Core.List.{[], _∷_};
 ghost use Prim.Native.Nat.{_<_};
+ghost use Rattle.rules.specs.Sizes.{maxGuests};
+ghost use Rattle.rules.specs.Requests.{INVAL, NOENT, NOMEM};
 ghost use Rattle.effects.specs.Flat.{device, firstOf, mapStatus, mapPlaced};
 ghost use Rattle.effects.specs.Outcome.{outcome};
 use effects::Handled;
@@ -12,24 +14,32 @@ use rules::Domain;
 use rules::Guest;
 use rules::Mapping;
 use rules::State;
+use rules::sizes::MAX_GUESTS;
+use rules::statuses::INVAL;
+use rules::statuses::NOENT;
+use rules::statuses::NOMEM;
+use rules::statuses::OK;
+
+// The places for guests, as a guest's number counts them.
+const GUEST_PLACES: u8 = MAX_GUESTS as u8;
 
 // The status of MAP by its steps, where form is that of steps 2 to 6.
 fn first_map(missing: bool, failing: bool, form: u8, meets: bool, full: bool) -> u8
-    ensures { λ x. ⌜ x ≡ firstOf ((missing, 6) ∷ (failing, form) ∷ (meets, 4) ∷ (full, 8) ∷ []) ⌝ }
+    ensures { λ x. ⌜ x ≡ firstOf ((missing, NOENT) ∷ (failing, form) ∷ (meets, INVAL) ∷ (full, NOMEM) ∷ []) ⌝ }
 {
     if missing {
-        return 6;
+        return NOENT;
     }
     if failing {
         return form;
     }
     if meets {
-        return 4;
+        return INVAL;
     }
     if full {
-        return 8;
+        return NOMEM;
     }
-    0
+    OK
 }
 
 // The same number.
@@ -41,7 +51,7 @@ fn wide(x: u32) -> usize
 
 // The status of MAP for a guest, a domain and a record.
 fn map_status(s: State, t: &[u64], g: Guest, d: Domain, r: Mapping) -> u8
-    requires { ⌜ g .0 < 4 ⌝ }
+    requires { ⌜ g .0 < maxGuests ⌝ }
     ensures { λ x. ⌜ x ≡ mapStatus (device s (now (t .entry))) g d r ⌝ }
 {
     let exists = attachments::domain_exists(&s.owners, &s.attached, &s.domains, g, d);
@@ -50,7 +60,7 @@ fn map_status(s: State, t: &[u64], g: Guest, d: Domain, r: Mapping) -> u8
     let held = holdings::held(t, s.live, g);
     let shares = s.settings.shares;
     let limit = shares[g.0 as usize];
-    first_map(!exists, form != 0, form, meets, wide(limit) <= held)
+    first_map(!exists, form != OK, form, meets, wide(limit) <= held)
 }
 
 // MAP for a guest: the record goes into the table where every step passes. Nothing is done where the guest or one
@@ -59,14 +69,14 @@ pub fn map(s: State, t: &mut [u64], g: Guest, d: Domain, r: Mapping) -> Handled
     ensures { λ x. ⌜ outcome x (now (t .exit)) ≡ mapPlaced (device s (now (t .entry))) g d r ⌝ }
 {
     let live = s.live;
-    if !((g.0 < 4) & (live < usize::MAX)) {
+    if !((g.0 < GUEST_PLACES) & (live < usize::MAX)) {
         return Handled {
-            status: 0,
+            status: OK,
             state: s,
         };
     }
     let status = map_status(s, t, g, d, r);
-    if status != 0 {
+    if status != OK {
         return Handled {
             status: status,
             state: s,
@@ -76,7 +86,7 @@ pub fn map(s: State, t: &mut [u64], g: Guest, d: Domain, r: Mapping) -> Handled
     let mut next = s;
     next.live = live + 1;
     Handled {
-        status: 0,
+        status: OK,
         state: next,
     }
 }

@@ -8,6 +8,8 @@ pub use resetting::reset;
 use rules::Domain;
 use rules::Guest;
 use rules::State;
+use rules::sizes::DOMAIN_SPAN;
+use rules::sizes::MAX_ENDPOINTS;
 
 // Every address there is.
 pub(crate) const TOP_ADDRESS: u64 = 18446744073709551615;
@@ -16,7 +18,7 @@ pub(crate) const TOP_ADDRESS: u64 = 18446744073709551615;
 pub fn key_of(g: Guest, d: Domain) -> u64
     ensures { λ r. ⌜ r ≡ keyOf g d ⌝ }
 {
-    (g.0 as u64) * 4294967296 + (d.0 as u64)
+    (g.0 as u64) * DOMAIN_SPAN + (d.0 as u64)
 }
 
 // The records with a key from low to high that lie inside the addresses from a to b go.
@@ -46,7 +48,7 @@ pub fn leave(s: State, t: &mut [u64], g: Guest, i: usize, d: Domain) -> State
 pub fn move_to(s: State, t: &mut [u64], g: Guest, i: usize, d: Domain) -> State
     ensures { λ r. ⌜ device r (now (t .exit)) ≡ moved (device s (now (t .entry))) g i d ⌝ }
 {
-    if 32 <= i {
+    if MAX_ENDPOINTS <= i {
         return attachments::attach_at(s, i, 1, d);
     }
     let flag = s.attached[i];

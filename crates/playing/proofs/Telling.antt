@@ -13,7 +13,8 @@ use Rattle.effects.specs.Checked.{replied}
 use Rattle.effects.specs.Setting.{started}
 use Rattle.plain_lines.specs.Plain.{letterS, numberLine}
 use Rattle.printing.proofs.Places.{placed-none}
-use Rattle.printing.specs.Placing.{placed, lineRoom, fetchRoom, written, writtenCount}
+use Rattle.printing.specs.Placing.{placed, lineRoom, written, writtenCount}
+use Rattle.fetch_lines.specs.Lines.{fetchRoom}
 use Rattle.playing.specs.declared.player.Player.{Player}
 use Rattle.playing.specs.declared.player.Turned.{Turned}
 use Rattle.items.specs.declared.Item.{Item}

@@ -12,12 +12,11 @@ use Rattle.rules.specs.State.{Device, configOf, zeroState}
 use Rattle.rules.specs.Device.{Reply, SetUp, step, setUp, request, access-by, reset-of, fetch-for}
 use Rattle.plain_lines.specs.Plain.{letterS, letterZ, numberLine}
 use Rattle.lines.specs.Lines.{requestLine, accessLine}
-use Rattle.fetch_lines.specs.Lines.{fetchLines}
+use Rattle.fetch_lines.specs.Lines.{fetchRoom, fetchLines}
 use Rattle.items.specs.declared.GuestFields.{GuestFields}
 use Rattle.items.specs.declared.StartFields.{StartFields}
 use Rattle.items.specs.declared.Item.{Item}
 use Rattle.items.specs.declared.Item.the-variants.{Cut, Wrong, NamedGuest, NamedEndpoint, Start, Request, Access, Reset, Fetch}
-use Rattle.printing.specs.Placing.{fetchRoom}
 use Rattle.playing.specs.declared.player.Player.{Player}
 use Rattle.items.specs.Items.{front, sizeOf, requestBytes}
 use Rattle.playing.specs.Naming.{withSettings, guestNamed, endpointNamed, rangesNamed}

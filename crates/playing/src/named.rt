@@ -12,6 +12,8 @@ use crate::results::worked;
 use items::GuestFields;
 use rules::Endpoint;
 use rules::Guest;
+use rules::sizes::MAX_ENDPOINTS;
+use rules::sizes::MAX_GUESTS;
 
 // A guest is named, unless it is the fifth or the journal has started.
 pub fn guest(p: Player, s: &[u8], f: GuestFields) -> Turned
@@ -22,7 +24,7 @@ pub fn guest(p: Player, s: &[u8], f: GuestFields) -> Turned
     if p.started {
         return idle(p, true);
     }
-    if settings.guests >= 4 {
+    if settings.guests >= MAX_GUESTS {
         return idle(p, true);
     }
     worked(false, naming::name_guest(state, f), items::size_of(s), 0)
@@ -36,7 +38,7 @@ pub fn endpoint(p: Player, s: &[u8], e: Endpoint, g: Guest) -> Turned
     if p.started {
         return idle(p, true);
     }
-    if state.listed >= 32 {
+    if state.listed >= MAX_ENDPOINTS {
         return idle(p, true);
     }
     worked(

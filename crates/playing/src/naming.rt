@@ -2,6 +2,7 @@
 ghost use mathlib.Core.Path.{_≡_};
 ghost use Prim.Native.Nat.{_<_, _≤_, min};
 ghost use lib.ListN.{length, take};
+ghost use Rattle.rules.specs.Sizes.{maxGuests, maxEndpoints};
 ghost use Rattle.rules.specs.State.{configOf};
 ghost use Rattle.rules.specs.Device.{setUp};
 ghost use Rattle.effects.specs.Setting.{configured, started};
@@ -13,10 +14,11 @@ use rules::Endpoint;
 use rules::Guest;
 use rules::Settings;
 use rules::State;
+use rules::sizes::MAX_ENDPOINTS;
 
 // One guest more.
 pub(crate) fn name_guest(s: State, f: GuestFields) -> State
-    requires { ⌜ s .settings .guests < 4 ⌝ }
+    requires { ⌜ s .settings .guests < maxGuests ⌝ }
     ensures { λ r. ⌜ r ≡ withSettings (guestNamed f (s .settings)) s ⌝ }
 {
     let mut settings = s.settings;
@@ -32,7 +34,7 @@ pub(crate) fn name_guest(s: State, f: GuestFields) -> State
 
 // One endpoint more.
 pub(crate) fn name_endpoint(s: State, e: Endpoint, g: Guest) -> State
-    requires { ⌜ s .listed < 32 ⌝ }
+    requires { ⌜ s .listed < maxEndpoints ⌝ }
     ensures { λ r. ⌜ r ≡ endpointNamed e g s ⌝ }
 {
     let n = s.listed;
@@ -58,21 +60,21 @@ fn name_ranges(s: Settings, f: StartFields) -> Settings
 
 // A count of endpoints, at most as many as there are places.
 fn at_most_all(n: usize) -> usize
-    ensures { λ r. ⌜ (r ≡ min n 32) × (r ≤ 32) ⌝ }
+    ensures { λ r. ⌜ (r ≡ min n maxEndpoints) × (r ≤ maxEndpoints) ⌝ }
 {
-    if n < 32 { n } else { 32 }
+    if n < MAX_ENDPOINTS { n } else { MAX_ENDPOINTS }
 }
 
 // Set-up with the first n of the endpoints; and, for whoever calls, how long the two arrays are.
 fn set_up_listed(
     settings: Settings,
-    endpoints: [u32; 32],
-    owners: [u8; 32],
+    endpoints: [u32; MAX_ENDPOINTS],
+    owners: [u8; MAX_ENDPOINTS],
     n: usize,
     t: &mut [u64],
 ) -> Given
-    requires { ⌜ n ≤ 32 ⌝ }
-    ensures { λ r. ⌜ (started r (now (t .exit)) ≡ setUp (configured settings (take n endpoints) (take n owners)) (now (t .entry))) × (length endpoints ≡ 32) × (length owners ≡ 32) ⌝ }
+    requires { ⌜ n ≤ maxEndpoints ⌝ }
+    ensures { λ r. ⌜ (started r (now (t .exit)) ≡ setUp (configured settings (take n endpoints) (take n owners)) (now (t .entry))) × (length endpoints ≡ maxEndpoints) × (length owners ≡ maxEndpoints) ⌝ }
 {
     setup::set_up(settings, &endpoints[..n], &owners[..n], t)
 }

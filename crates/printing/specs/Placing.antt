@@ -13,10 +13,6 @@ placed k line out = take k out ++ (line ++ drop (k + length line) out)
 abbrev pub lineRoom : ℕ
 lineRoom = 64
 
--- a fetch's lines: the first, and one of 49 bytes for each of 16 records
-abbrev pub fetchRoom : ℕ
-fetchRoom = 848
-
 -- a line put at place k where there is room for so many bytes; else nothing is
 unfoldable pub written : ℕ → ℕ → List ℕ → List ℕ → List ℕ
 written room k line out = cond (leb (k + room) (length out)) (placed k line out) out

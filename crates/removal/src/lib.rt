@@ -2,11 +2,12 @@
 ghost use mathlib.Core.Path.{_≡_};
 ghost use Prim.Native.Nat.{_*_, _≤_};
 ghost use lib.ListN.{length, take, drop, replicate};
+ghost use Rattle.rules.specs.Sizes.{recordWords};
 ghost use Rattle.rules.specs.Table.{records, words};
 ghost use Rattle.removal.specs.Removed.{within, keptOf, removedWords};
 use rewriting::write;
 use rules::Mapping;
-use table::RECORD_WORDS;
+use rules::sizes::RECORD_WORDS;
 
 // Whether r has a key from low to high and lies inside the addresses from a to b.
 fn is_within(r: Mapping, low: u64, high: u64, a: u64, b: u64) -> bool
@@ -19,7 +20,7 @@ fn is_within(r: Mapping, low: u64, high: u64, a: u64, b: u64) -> bool
 fn close_up(t: &mut [u64], n: usize, low: u64, high: u64, a: u64, b: u64) -> usize
     requires { ⌜ n ≤ length (records (now t)) ⌝ }
     ensures { λ k. ⌜ (k ≡ length (keptOf n low high a b (now (t .entry)))) × (k ≤ n) ⌝ }
-    ensures { λ k. ⌜ (take (5 * k) (now (t .exit)) ≡ words (keptOf n low high a b (now (t .entry)))) × (drop (5 * n) (now (t .exit)) ≡ drop (5 * n) (now (t .entry))) ⌝ }
+    ensures { λ k. ⌜ (take (recordWords * k) (now (t .exit)) ≡ words (keptOf n low high a b (now (t .entry)))) × (drop (recordWords * n) (now (t .exit)) ≡ drop (recordWords * n) (now (t .entry))) ⌝ }
 {
     let mut kept: usize = 0;
     for i in 0..n {

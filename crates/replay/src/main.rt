@@ -4,6 +4,7 @@ ghost use Rattle.io.specs.Counts.{Counts};
 use journal::play;
 use playing::player;
 use playing::player::Player;
+use rules::sizes::TABLE_WORDS;
 
 // How far a journal has come: the bytes of the block that are held, how many of them are worked, and where in the journal the
 // first that is not stands.
@@ -103,7 +104,7 @@ fn replay_all(table: &mut [u64], block: &mut [u8], out: &mut [u8]) {
 }
 
 fn main() {
-    let mut table: [u64; 1280] = [0; 1280];
+    let mut table: [u64; TABLE_WORDS] = [0; TABLE_WORDS];
     let mut block = io::large_buffer();
     let mut out = io::large_buffer();
     replay_all(&mut table, &mut block, &mut out);

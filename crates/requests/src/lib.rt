@@ -5,6 +5,7 @@ ghost use mathlib.Core.Path.{_≡_};
 ghost use mathlib.Core.Bool.{true};
 ghost use Prim.Native.Nat.{_<_};
 ghost use lib.Dec.{ltb};
+ghost use Rattle.rules.specs.Sizes.{maxGuests};
 ghost use Rattle.rules.specs.Sound.{sound};
 ghost use Rattle.rules.specs.Device as rules;
 ghost use Rattle.effects.specs.Flat.{device};
@@ -18,15 +19,16 @@ use rules::Answer;
 use rules::Guest;
 use rules::Mapping;
 use rules::State;
+use rules::statuses::OK;
 
 // The handler of a request's type.
 fn handle(s: State, t: &mut [u64], g: Guest, q: Request) -> Handled
-    requires { ⌜ (g .0 < 4) × (s .live < 18446744073709551615) ⌝ }
+    requires { ⌜ (g .0 < maxGuests) × (s .live < 18446744073709551615) ⌝ }
     ensures { λ r. ⌜ outcome r (now (t .exit)) ≡ handled (device s (now (t .entry))) g q ⌝ }
 {
     match q {
         Request::Refused(_) => Handled {
-            status: 0,
+            status: OK,
             state: s,
         },
         Request::Attach(d, e, reserved) => endpoints::attach(s, t, g, d, e, reserved),

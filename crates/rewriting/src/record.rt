@@ -3,15 +3,16 @@ ghost use mathlib.Core.Path.{_≡_};
 ghost use mathlib.Core.List.{_++_};
 ghost use Prim.Native.Nat.{_+_, _≤_};
 ghost use lib.ListN.{length, set};
+ghost use Rattle.rules.specs.Sizes.{recordWords};
 ghost use Rattle.rules.specs.Table.{records, words};
 ghost use Rattle.table.specs.Records.{spare};
 ghost use Rattle.rewriting.specs.Stored.{stored};
 use rules::Mapping;
-use table::RECORD_WORDS;
+use rules::sizes::RECORD_WORDS;
 
 // The words with r in the five from at on.
 fn store(t: &mut [u64], at: usize, r: Mapping)
-    requires { ⌜ at + 5 ≤ length (now t) ⌝ }
+    requires { ⌜ at + recordWords ≤ length (now t) ⌝ }
     ensures { λ _. ⌜ now (t .exit) ≡ stored (now (t .entry)) at r ⌝ }
 {
     t[at] = r.key;

@@ -1,5 +1,5 @@
--- The sizes of document 01, each named once.
-use Prim.Native.Nat.{ℕ, _^_}
+-- The sizes of document 01, each named once for the definitions, as src/sizes.rt names them for the code.
+use Prim.Native.Nat.{ℕ, _*_, _^_}
 
 -- "one to four guests"
 abbrev pub maxGuests : ℕ
@@ -18,7 +18,7 @@ recordWords = 5
 
 -- "1,280 lent 64-bit words"
 abbrev pub tableWords : ℕ
-tableWords = 1280
+tableWords = recordWords * maxRecords
 
 -- "a fault log of at most 16 records"
 abbrev pub maxFaults : ℕ
@@ -26,7 +26,7 @@ maxFaults = 16
 
 -- the places for the faults of all guests
 abbrev pub faultPlaces : ℕ
-faultPlaces = 64
+faultPlaces = maxFaults * maxGuests
 
 -- "a lost count that stops at 65,535"
 abbrev pub maxLost : ℕ

@@ -1,4 +1,10 @@
-// The types that the definitions and the code share. There is no function here.
+// The types that the definitions and the code share, and the sizes and statuses that the code names. There is no function here.
+pub mod sizes;
+pub mod statuses;
+
+use sizes::FAULT_PLACES;
+use sizes::MAX_ENDPOINTS;
+use sizes::MAX_GUESTS;
 
 // A guest's number, below the guest count.
 #[repr(C)]
@@ -29,31 +35,31 @@ pub struct DomainRange {
 #[repr(C)]
 pub struct Settings {
     pub guests: usize,
-    pub shares: [u32; 4],
-    pub firsts: [u64; 4],
-    pub lasts: [u64; 4],
+    pub shares: [u32; MAX_GUESTS],
+    pub firsts: [u64; MAX_GUESTS],
+    pub lasts: [u64; MAX_GUESTS],
     pub mask: u64,
     pub input: InputRange,
     pub domains: DomainRange,
 }
 
 // The device's state. Endpoint i has its number, owner, attached flag (0 or 1) and domain at place i of four arrays;
-// fault j of guest g stands at place 16 g + j of four arrays, with the guest's number of faults in logged.
+// fault j of guest g stands at place MAX_FAULTS * g + j of four arrays, with the guest's number of faults in logged.
 #[repr(C)]
 pub struct State {
     pub settings: Settings,
     pub listed: usize,
-    pub endpoints: [u32; 32],
-    pub owners: [u8; 32],
-    pub attached: [u8; 32],
-    pub domains: [u32; 32],
+    pub endpoints: [u32; MAX_ENDPOINTS],
+    pub owners: [u8; MAX_ENDPOINTS],
+    pub attached: [u8; MAX_ENDPOINTS],
+    pub domains: [u32; MAX_ENDPOINTS],
     pub live: usize,
-    pub logged: [usize; 4],
-    pub lost: [u32; 4],
-    pub reasons: [u8; 64],
-    pub flags: [u32; 64],
-    pub sources: [u32; 64],
-    pub addresses: [u64; 64],
+    pub logged: [usize; MAX_GUESTS],
+    pub lost: [u32; MAX_GUESTS],
+    pub reasons: [u8; FAULT_PLACES],
+    pub flags: [u32; FAULT_PLACES],
+    pub sources: [u32; FAULT_PLACES],
+    pub addresses: [u64; FAULT_PLACES],
 }
 
 // A mapping record, the five words of the table: key is guest times 2^32 plus domain, start and end are virt_start and

@@ -4,12 +4,18 @@ ghost use mathlib.Core.Bool.{not};
 ghost use Prim.Native.Nat.{_≤_, _<_};
 ghost use lib.Dec.{leb};
 ghost use Rattle.laws.specs.Lists.{below, sumBelow};
+ghost use Rattle.rules.specs.Sizes.{maxGuests};
 ghost use Rattle.rules.specs.Configuration.{share, first, last, shareAddress, goodSettings};
 use rules::Settings;
+use rules::sizes::MAX_GUESTS;
+use rules::sizes::MAX_RECORDS;
+
+// What the shares may sum to.
+const MAX_SUM: u64 = MAX_RECORDS as u64;
 
 // Whether the windows of the first n guests are not empty.
 fn windows_filled(s: Settings, n: usize) -> bool
-    requires { ⌜ n ≤ 4 ⌝ }
+    requires { ⌜ n ≤ maxGuests ⌝ }
     ensures { λ r. ⌜ r ≡ below n (λ g. leb (first s g) (last s g)) ⌝ }
 {
     let firsts = s.firsts;
@@ -23,7 +29,7 @@ fn windows_filled(s: Settings, n: usize) -> bool
 
 // Whether guest g's window has no address in common with that of a guest below it.
 fn window_apart(s: Settings, g: usize) -> bool
-    requires { ⌜ g < 4 ⌝ }
+    requires { ⌜ g < maxGuests ⌝ }
     ensures { λ r. ⌜ r ≡ below g (λ h. not (shareAddress s g h)) ⌝ }
 {
     let firsts = s.firsts;
@@ -37,7 +43,7 @@ fn window_apart(s: Settings, g: usize) -> bool
 
 // Whether no two windows of the first n guests have an address in common.
 fn windows_apart(s: Settings, n: usize) -> bool
-    requires { ⌜ n ≤ 4 ⌝ }
+    requires { ⌜ n ≤ maxGuests ⌝ }
     ensures { λ r. ⌜ r ≡ below n (λ g. below g (λ h. not (shareAddress s g h))) ⌝ }
 {
     let mut ok = true;
@@ -49,7 +55,7 @@ fn windows_apart(s: Settings, n: usize) -> bool
 
 // The sum of the first n guests' shares.
 fn shares_sum(s: Settings, n: usize) -> u64
-    requires { ⌜ n ≤ 4 ⌝ }
+    requires { ⌜ n ≤ maxGuests ⌝ }
     ensures { λ r. ⌜ r ≡ sumBelow n (share s) ⌝ }
 {
     let shares = s.shares;
@@ -68,12 +74,12 @@ pub fn good_settings(s: Settings) -> bool
     if n < 1 {
         return false;
     }
-    if n > 4 {
+    if n > MAX_GUESTS {
         return false;
     }
     windows_filled(s, n)
         & (windows_apart(s, n)
-            & ((shares_sum(s, n) <= 256)
+            & ((shares_sum(s, n) <= MAX_SUM)
                 & ((s.mask != 0)
                     & ((s.input.start <= s.input.end) & (s.domains.start <= s.domains.end)))))
 }

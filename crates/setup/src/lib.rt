@@ -1,6 +1,7 @@
 // Set-up: the state that a configuration starts with.
 ghost use mathlib.Core.Path.{_≡_};
 ghost use Rattle.laws.specs.Lists.{tab, pad};
+ghost use Rattle.rules.specs.Sizes.{maxGuests, maxEndpoints};
 ghost use Rattle.rules.specs.Configuration.{good};
 ghost use Rattle.rules.specs.State.{trimmed, stateOf, start, zeroState};
 ghost use Rattle.rules.specs.Device.{setUp};
@@ -11,9 +12,10 @@ use rules::DomainRange;
 use rules::InputRange;
 use rules::Settings;
 use rules::State;
-
-// The words of the table.
-const TABLE_WORDS: usize = 1280;
+use rules::sizes::FAULT_PLACES;
+use rules::sizes::MAX_ENDPOINTS;
+use rules::sizes::MAX_GUESTS;
+use rules::sizes::TABLE_WORDS;
 
 // The state with every number zero.
 pub fn zero_state() -> State
@@ -22,34 +24,34 @@ pub fn zero_state() -> State
     State {
         settings: Settings {
             guests: 0,
-            shares: [0; 4],
-            firsts: [0; 4],
-            lasts: [0; 4],
+            shares: [0; MAX_GUESTS],
+            firsts: [0; MAX_GUESTS],
+            lasts: [0; MAX_GUESTS],
             mask: 0,
             input: InputRange { start: 0, end: 0 },
             domains: DomainRange { start: 0, end: 0 },
         },
         listed: 0,
-        endpoints: [0; 32],
-        owners: [0; 32],
-        attached: [0; 32],
-        domains: [0; 32],
+        endpoints: [0; MAX_ENDPOINTS],
+        owners: [0; MAX_ENDPOINTS],
+        attached: [0; MAX_ENDPOINTS],
+        domains: [0; MAX_ENDPOINTS],
         live: 0,
-        logged: [0; 4],
-        lost: [0; 4],
-        reasons: [0; 64],
-        flags: [0; 64],
-        sources: [0; 64],
-        addresses: [0; 64],
+        logged: [0; MAX_GUESTS],
+        lost: [0; MAX_GUESTS],
+        reasons: [0; FAULT_PLACES],
+        flags: [0; FAULT_PLACES],
+        sources: [0; FAULT_PLACES],
+        addresses: [0; FAULT_PLACES],
     }
 }
 
 // The shares, zero from place n on.
-fn kept_u32(n: usize, l: [u32; 4]) -> [u32; 4]
-    ensures { λ r. ⌜ r ≡ tab 4 (keptOf n l) ⌝ }
+fn kept_u32(n: usize, l: [u32; MAX_GUESTS]) -> [u32; MAX_GUESTS]
+    ensures { λ r. ⌜ r ≡ tab maxGuests (keptOf n l) ⌝ }
 {
     let mut out = l;
-    for i in 0..4 {
+    for i in 0..MAX_GUESTS {
         if i >= n {
             out[i] = 0;
         }
@@ -58,11 +60,11 @@ fn kept_u32(n: usize, l: [u32; 4]) -> [u32; 4]
 }
 
 // The first, or the last, addresses, zero from place n on.
-fn kept_u64(n: usize, l: [u64; 4]) -> [u64; 4]
-    ensures { λ r. ⌜ r ≡ tab 4 (keptOf n l) ⌝ }
+fn kept_u64(n: usize, l: [u64; MAX_GUESTS]) -> [u64; MAX_GUESTS]
+    ensures { λ r. ⌜ r ≡ tab maxGuests (keptOf n l) ⌝ }
 {
     let mut out = l;
-    for i in 0..4 {
+    for i in 0..MAX_GUESTS {
         if i >= n {
             out[i] = 0;
         }
@@ -89,11 +91,11 @@ fn trim(s: Settings) -> Settings
 }
 
 // The endpoints in the state's places, zero after the last.
-fn padded_u32(l: &[u32]) -> [u32; 32]
-    ensures { λ r. ⌜ r ≡ pad 32 0 (now (l .entry)) ⌝ }
+fn padded_u32(l: &[u32]) -> [u32; MAX_ENDPOINTS]
+    ensures { λ r. ⌜ r ≡ pad maxEndpoints 0 (now (l .entry)) ⌝ }
 {
-    let mut out: [u32; 32] = [0; 32];
-    for i in 0..32 {
+    let mut out: [u32; MAX_ENDPOINTS] = [0; MAX_ENDPOINTS];
+    for i in 0..MAX_ENDPOINTS {
         if i < l.len() {
             out[i] = l[i];
         } else {
@@ -104,11 +106,11 @@ fn padded_u32(l: &[u32]) -> [u32; 32]
 }
 
 // The owners in the state's places, zero after the last.
-fn padded_u8(l: &[u8]) -> [u8; 32]
-    ensures { λ r. ⌜ r ≡ pad 32 0 (now (l .entry)) ⌝ }
+fn padded_u8(l: &[u8]) -> [u8; MAX_ENDPOINTS]
+    ensures { λ r. ⌜ r ≡ pad maxEndpoints 0 (now (l .entry)) ⌝ }
 {
-    let mut out: [u8; 32] = [0; 32];
-    for i in 0..32 {
+    let mut out: [u8; MAX_ENDPOINTS] = [0; MAX_ENDPOINTS];
+    for i in 0..MAX_ENDPOINTS {
         if i < l.len() {
             out[i] = l[i];
         } else {

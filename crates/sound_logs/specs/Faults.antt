@@ -4,6 +4,7 @@ use mathlib.Core.Bool.{cond}
 use mathlib.Core.List.{List, []}
 use lib.Dec.{ltb}
 use lib.ListN.{getD}
+use Rattle.rules.specs.Sizes.{maxGuests}
 use Rattle.rules.specs.declared.Settings.{Settings}
 use Rattle.rules.specs.declared.State.{State}
 use Rattle.rules.specs.State.{zeroState}
@@ -48,6 +49,6 @@ endpointsAlone es =
       endpoints = es;
     }
 
--- the owner of the endpoint at place j among the first n; 4, which is no guest's number, past them
+-- the owner of the endpoint at place j among the first n; past them a number that is no guest's
 unfoldable pub ownerAmong : ℕ → List ℕ → ℕ → ℕ
-ownerAmong n owners j = cond (ltb j n) (getD owners j 0) 4
+ownerAmong n owners j = cond (ltb j n) (getD owners j 0) maxGuests

@@ -11,24 +11,26 @@ ghost use Rattle.rules.specs.Sizes.{maxEndpoints, faultPlaces};
 ghost use Rattle.rules.specs.State.{configOf};
 ghost use Rattle.rules.specs.Sound.{faultGood, faultZero, faultPlaceGood};
 ghost use Rattle.sound_logs.specs.Faults.{endpointsAlone, faultsAlone};
+use named::SLOTS;
 use named::hints_of;
 use named::is_named;
 use named::owners_among;
 use rules::Endpoint;
 use rules::Fault;
+use rules::sizes::FAULT_PLACES;
+use rules::sizes::MAX_ENDPOINTS;
+use rules::sizes::MAX_FAULTS;
+use rules::sizes::MAX_GUESTS;
 use zeros::zero_u8;
 use zeros::zero_u32;
 use zeros::zero_u64;
 use zeros::zero_usize;
 
-// The places for a guest's faults.
-const MAX_FAULTS: usize = 16;
-
 // Whether f, at a place that is in use or not, is a fault of guest g or zero.
 fn fault_good<'a>(
     endpoints: &'a [u32],
     owners: &'a [u32],
-    hints: &'a [u8; 64],
+    hints: &'a [u8; SLOTS],
     g: u32,
     used: bool,
     f: Fault,
@@ -49,11 +51,11 @@ fn places_good<'a>(
     n: usize,
     endpoints: &'a [u32],
     owners: &'a [u8],
-    logged: &'a [usize; 4],
-    reasons: &'a [u8; 64],
-    flags: &'a [u32; 64],
-    sources: &'a [u32; 64],
-    addresses: &'a [u64; 64],
+    logged: &'a [usize; MAX_GUESTS],
+    reasons: &'a [u8; FAULT_PLACES],
+    flags: &'a [u32; FAULT_PLACES],
+    sources: &'a [u32; FAULT_PLACES],
+    addresses: &'a [u64; FAULT_PLACES],
 ) -> bool
     requires { ⌜ (n ≤ maxEndpoints) × (length (now owners) ≡ maxEndpoints) × (length (now endpoints) ≡ maxEndpoints) ⌝ }
     ensures { λ r. ⌜ r ≡ below faultPlaces (faultPlaceGood (configOf (faultsAlone n (now (endpoints .entry)) (now (owners .entry)) (now (logged .entry)) (now (reasons .entry)) (now (flags .entry)) (now (sources .entry)) (now (addresses .entry)))) (faultsAlone n (now (endpoints .entry)) (now (owners .entry)) (now (logged .entry)) (now (reasons .entry)) (now (flags .entry)) (now (sources .entry)) (now (addresses .entry)))) ⌝ }
@@ -61,7 +63,7 @@ fn places_good<'a>(
     let listed = owners_among(n, owners);
     let hints = hints_of(endpoints);
     let mut ok = true;
-    for i in 0..64 {
+    for i in 0..FAULT_PLACES {
         let g = i / MAX_FAULTS;
         let count = logged[g];
         let e = sources[i];
@@ -88,17 +90,17 @@ fn places_good<'a>(
 // endpoints.
 pub fn faults_good<'a>(
     n: usize,
-    endpoints: &'a [u32; 32],
-    owners: &'a [u8; 32],
-    logged: &'a [usize; 4],
-    reasons: &'a [u8; 64],
-    flags: &'a [u32; 64],
-    sources: &'a [u32; 64],
-    addresses: &'a [u64; 64],
+    endpoints: &'a [u32; MAX_ENDPOINTS],
+    owners: &'a [u8; MAX_ENDPOINTS],
+    logged: &'a [usize; MAX_GUESTS],
+    reasons: &'a [u8; FAULT_PLACES],
+    flags: &'a [u32; FAULT_PLACES],
+    sources: &'a [u32; FAULT_PLACES],
+    addresses: &'a [u64; FAULT_PLACES],
 ) -> bool
     ensures { λ r. ⌜ r ≡ (leb n maxEndpoints && below faultPlaces (faultPlaceGood (configOf (faultsAlone n (now (endpoints .entry)) (now (owners .entry)) (now (logged .entry)) (now (reasons .entry)) (now (flags .entry)) (now (sources .entry)) (now (addresses .entry)))) (faultsAlone n (now (endpoints .entry)) (now (owners .entry)) (now (logged .entry)) (now (reasons .entry)) (now (flags .entry)) (now (sources .entry)) (now (addresses .entry))))) ⌝ }
 {
-    if 32 < n {
+    if MAX_ENDPOINTS < n {
         return false;
     }
     if zero_usize(logged, 0) {

@@ -9,6 +9,7 @@ ghost use Rattle.rules.specs.Sizes.{maxEndpoints};
 ghost use Rattle.rules.specs.Sound.{attachmentGood};
 ghost use Rattle.sound_places.specs.Ranges.{rangeAlone};
 use rules::DomainRange;
+use rules::sizes::MAX_ENDPOINTS;
 
 // Whether an endpoint is attached to a domain of the range, or not attached and its domain 0.
 fn attachment_good(range: DomainRange, flag: u8, d: u32) -> bool
@@ -21,10 +22,10 @@ fn attachment_good(range: DomainRange, flag: u8, d: u32) -> bool
 fn all_good<'a>(
     range: DomainRange,
     n: usize,
-    attached: &'a [u8; 32],
-    domains: &'a [u32; 32],
+    attached: &'a [u8; MAX_ENDPOINTS],
+    domains: &'a [u32; MAX_ENDPOINTS],
 ) -> bool
-    requires { ⌜ n ≤ 32 ⌝ }
+    requires { ⌜ n ≤ maxEndpoints ⌝ }
     ensures { λ r. ⌜ r ≡ below n (λ i. attachmentGood (rangeAlone range) (getD (now (attached .entry)) i 0) (getD (now (domains .entry)) i 0)) ⌝ }
 {
     let mut ok = true;
@@ -41,12 +42,12 @@ fn all_good<'a>(
 pub fn attachments_good<'a>(
     range: DomainRange,
     n: usize,
-    attached: &'a [u8; 32],
-    domains: &'a [u32; 32],
+    attached: &'a [u8; MAX_ENDPOINTS],
+    domains: &'a [u32; MAX_ENDPOINTS],
 ) -> bool
     ensures { λ r. ⌜ r ≡ (leb n maxEndpoints && below n (λ i. attachmentGood (rangeAlone range) (getD (now (attached .entry)) i 0) (getD (now (domains .entry)) i 0))) ⌝ }
 {
-    if 32 < n {
+    if MAX_ENDPOINTS < n {
         return false;
     }
     all_good(range, n, attached, domains)

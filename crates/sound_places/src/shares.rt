@@ -8,10 +8,11 @@ ghost use Rattle.laws.specs.Lists.{below};
 ghost use Rattle.rules.specs.Sizes.{maxGuests};
 ghost use Rattle.rules.specs.Configuration.{share};
 use rules::Settings;
+use rules::sizes::MAX_GUESTS;
 
 // Whether no guest's count is above its share, of guests that have places.
-fn all_kept(settings: Settings, counts: [usize; 4]) -> bool
-    requires { ⌜ settings .guests ≤ 4 ⌝ }
+fn all_kept(settings: Settings, counts: [usize; MAX_GUESTS]) -> bool
+    requires { ⌜ settings .guests ≤ maxGuests ⌝ }
     ensures { λ b. ⌜ b ≡ below (settings .guests) (λ g. leb (getD counts g 0) (share settings g)) ⌝ }
 {
     let shares = settings.shares;
@@ -25,10 +26,10 @@ fn all_kept(settings: Settings, counts: [usize; 4]) -> bool
 }
 
 // Whether no guest's count is above its share; false where there are no places for as many guests.
-pub fn shares_kept(settings: Settings, counts: [usize; 4]) -> bool
+pub fn shares_kept(settings: Settings, counts: [usize; MAX_GUESTS]) -> bool
     ensures { λ b. ⌜ b ≡ (leb (settings .guests) maxGuests && below (settings .guests) (λ g. leb (getD counts g 0) (share settings g))) ⌝ }
 {
-    if 4 < settings.guests {
+    if MAX_GUESTS < settings.guests {
         return false;
     }
     all_kept(settings, counts)

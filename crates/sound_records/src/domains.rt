@@ -2,9 +2,17 @@
 ghost use mathlib.Core.Path.{_≡_};
 ghost use Prim.Native.Nat.{_≤_, _<_};
 ghost use lib.ListN.{length};
+ghost use Rattle.rules.specs.Sizes.{maxEndpoints};
 ghost use Rattle.sound_records.specs.Scan as spec;
-use crate::DOMAIN_SPAN;
 use rules::Mapping;
+use rules::sizes::DOMAIN_SPAN;
+use rules::sizes::MAX_ENDPOINTS;
+
+// The slots of the hints.
+const SLOTS: usize = 64;
+
+// The places of endpoints, as a hint counts them.
+const PLACES: u8 = MAX_ENDPOINTS as u8;
 
 // The same number.
 fn wide(x: u8) -> u64
@@ -24,11 +32,11 @@ fn wider(x: u32) -> u64
 fn domain_good<'a>(
     n: usize,
     owners: &'a [u8],
-    attached: &'a [u8; 32],
-    domains: &'a [u32; 32],
+    attached: &'a [u8; MAX_ENDPOINTS],
+    domains: &'a [u32; MAX_ENDPOINTS],
     r: Mapping,
 ) -> bool
-    requires { ⌜ (n ≤ 32) × (n ≤ length (now owners)) ⌝ }
+    requires { ⌜ (n ≤ maxEndpoints) × (n ≤ length (now owners)) ⌝ }
     ensures { λ b. ⌜ b ≡ spec.domainGood n (now (owners .entry)) (now (attached .entry)) (now (domains .entry)) r ⌝ }
 {
     let g = r.key / DOMAIN_SPAN;
@@ -43,7 +51,7 @@ fn domain_good<'a>(
     found
 }
 
-// One of 64 slots for a guest and a domain.
+// A slot for a guest and a domain.
 fn slot_of(g: u64, d: u64) -> usize
     ensures { λ r. ⌜ r < 64 ⌝ }
 {
@@ -55,12 +63,12 @@ fn slot_of(g: u64, d: u64) -> usize
 pub(crate) fn hints_of<'a>(
     n: usize,
     owners: &'a [u8],
-    attached: &'a [u8; 32],
-    domains: &'a [u32; 32],
-) -> [u8; 64]
-    requires { ⌜ (n ≤ 32) × (n ≤ length (now owners)) ⌝ }
+    attached: &'a [u8; MAX_ENDPOINTS],
+    domains: &'a [u32; MAX_ENDPOINTS],
+) -> [u8; SLOTS]
+    requires { ⌜ (n ≤ maxEndpoints) × (n ≤ length (now owners)) ⌝ }
 {
-    let mut hints: [u8; 64] = [0; 64];
+    let mut hints: [u8; SLOTS] = [0; SLOTS];
     for j in 0..n {
         if attached[j] == 1 {
             let o = owners[j];
@@ -76,18 +84,18 @@ pub(crate) fn hints_of<'a>(
 pub(crate) fn domain_held<'a>(
     n: usize,
     owners: &'a [u8],
-    attached: &'a [u8; 32],
-    domains: &'a [u32; 32],
-    hints: &'a [u8; 64],
+    attached: &'a [u8; MAX_ENDPOINTS],
+    domains: &'a [u32; MAX_ENDPOINTS],
+    hints: &'a [u8; SLOTS],
     r: Mapping,
 ) -> bool
-    requires { ⌜ (n ≤ 32) × (n ≤ length (now owners)) ⌝ }
+    requires { ⌜ (n ≤ maxEndpoints) × (n ≤ length (now owners)) ⌝ }
     ensures { λ b. ⌜ b ≡ spec.domainGood n (now (owners .entry)) (now (attached .entry)) (now (domains .entry)) r ⌝ }
 {
     let g = r.key / DOMAIN_SPAN;
     let d = r.key % DOMAIN_SPAN;
     let slot = slot_of(g, d);
-    let j = (hints[slot] % 32) as usize;
+    let j = (hints[slot] % PLACES) as usize;
     if j < n {
         let o = owners[j];
         let a = attached[j];

@@ -7,6 +7,7 @@ ghost use mathlib.Core.Bool.{true, _&&_};
 ghost use Prim.Native.Nat.{_≤_, _<_};
 ghost use lib.ListN.{length, take};
 ghost use Rattle.laws.specs.Lists.{every?};
+ghost use Rattle.rules.specs.Sizes.{maxGuests, maxEndpoints};
 ghost use Rattle.rules.specs.Table.{records};
 ghost use Rattle.table.specs.Records.{noMapping};
 ghost use Rattle.sound_records.specs.Scan as spec;
@@ -15,13 +16,11 @@ use domains::hints_of;
 use forms::opens;
 use forms::run_end;
 use rules::Settings;
+use rules::sizes::DOMAIN_SPAN;
+use rules::sizes::MAX_ENDPOINTS;
+use rules::sizes::MAX_GUESTS;
+use rules::sizes::RECORD_WORDS;
 use sound_places::shares_kept;
-
-// The keys of a guest's domains: a key is guest times this plus domain.
-const DOMAIN_SPAN: u64 = 4294967296;
-
-// The words of a record.
-const RECORD_WORDS: usize = 5;
 
 // The same for numbers of guests, endpoints and records that have places, and a mask that has a lowest bit.
 fn placed_good<'a>(
@@ -29,11 +28,11 @@ fn placed_good<'a>(
     listed: usize,
     live: usize,
     owners: &'a [u8],
-    attached: &'a [u8; 32],
-    domains: &'a [u32; 32],
+    attached: &'a [u8; MAX_ENDPOINTS],
+    domains: &'a [u32; MAX_ENDPOINTS],
     t: &'a [u64],
 ) -> bool
-    requires { ⌜ (settings .guests ≤ 4) × (0 < settings .mask) × (listed ≤ 32) × (listed ≤ length (now owners)) × (live ≤ length (records (now t))) ⌝ }
+    requires { ⌜ (settings .guests ≤ maxGuests) × (0 < settings .mask) × (listed ≤ maxEndpoints) × (listed ≤ length (now owners)) × (live ≤ length (records (now t))) ⌝ }
     ensures { λ b. ⌜ b ≡ (spec.scan (spec.ownGood settings) (spec.domainGood listed (now (owners .entry)) (now (attached .entry)) (now (domains .entry))) true noMapping (take live (records (now (t .entry)))) && spec.sharesKept settings (take live (records (now (t .entry))))) ⌝ }
 {
     let guests = settings.guests;
@@ -42,7 +41,7 @@ fn placed_good<'a>(
     let firsts = settings.firsts;
     let lasts = settings.lasts;
     let hints = hints_of(listed, owners, attached, domains);
-    let mut counts: [usize; 4] = [0; 4];
+    let mut counts: [usize; MAX_GUESTS] = [0; MAX_GUESTS];
     let mut key: u64 = 0;
     let mut i: usize = 0;
     while i < live {
@@ -74,15 +73,15 @@ pub fn records_good<'a>(
     settings: Settings,
     listed: usize,
     live: usize,
-    owners: &'a [u8; 32],
-    attached: &'a [u8; 32],
-    domains: &'a [u32; 32],
+    owners: &'a [u8; MAX_ENDPOINTS],
+    attached: &'a [u8; MAX_ENDPOINTS],
+    domains: &'a [u32; MAX_ENDPOINTS],
     t: &'a [u64],
 ) -> bool
     ensures { λ b. ⌜ b ≡ (every? (spec.placesTests settings listed live (now (t .entry))) && (spec.scan (spec.ownGood settings) (spec.domainGood listed (now (owners .entry)) (now (attached .entry)) (now (domains .entry))) true noMapping (take live (records (now (t .entry)))) && spec.sharesKept settings (take live (records (now (t .entry)))))) ⌝ }
 {
-    if !((settings.guests <= 4)
-        & ((0 < settings.mask) & ((listed <= 32) & (live <= t.len() / RECORD_WORDS)))) {
+    if !((settings.guests <= MAX_GUESTS)
+        & ((0 < settings.mask) & ((listed <= MAX_ENDPOINTS) & (live <= t.len() / RECORD_WORDS)))) {
         return false;
     }
     placed_good(settings, listed, live, owners, attached, domains, t)

@@ -8,6 +8,12 @@ ghost use Rattle.rules.specs.Sound.{sound};
 ghost use Rattle.soundness.specs.Pieces.{framed, deviceOf};
 use endpoint_lists::good_lists;
 use rules::Settings;
+use rules::sizes::FAULT_PLACES;
+use rules::sizes::MAX_ENDPOINTS;
+use rules::sizes::MAX_GUESTS;
+use rules::sizes::MAX_RECORDS;
+use rules::sizes::RECORD_WORDS;
+use rules::sizes::TABLE_WORDS;
 use settings::good_settings;
 use sound_logs::faults_good;
 use sound_places::attachments_good;
@@ -15,15 +21,6 @@ use sound_places::counts_good;
 use sound_records::records_good;
 use unused::unused_zero;
 use zeros::zero_u64;
-
-// The words of the table.
-const TABLE_WORDS: usize = 1280;
-
-// The records that it has room for.
-const MAX_RECORDS: usize = 256;
-
-// The words of a record.
-const RECORD_WORDS: usize = 5;
 
 // Whether there are n endpoints.
 fn has_places(endpoints: &[u32], n: usize) -> bool
@@ -37,8 +34,8 @@ fn frame_good<'a>(
     settings: Settings,
     listed: usize,
     live: usize,
-    endpoints: &'a [u32; 32],
-    owners: &'a [u8; 32],
+    endpoints: &'a [u32; MAX_ENDPOINTS],
+    owners: &'a [u8; MAX_ENDPOINTS],
     t: &'a [u64],
 ) -> bool
     ensures { λ r. ⌜ r ≡ framed settings listed live (now (endpoints .entry)) (now (owners .entry)) (now (t .entry)) ⌝ }
@@ -63,16 +60,16 @@ pub fn is_sound<'a>(
     settings: Settings,
     listed: usize,
     live: usize,
-    endpoints: &'a [u32; 32],
-    owners: &'a [u8; 32],
-    attached: &'a [u8; 32],
-    domains: &'a [u32; 32],
-    logged: &'a [usize; 4],
-    lost: &'a [u32; 4],
-    reasons: &'a [u8; 64],
-    flags: &'a [u32; 64],
-    sources: &'a [u32; 64],
-    addresses: &'a [u64; 64],
+    endpoints: &'a [u32; MAX_ENDPOINTS],
+    owners: &'a [u8; MAX_ENDPOINTS],
+    attached: &'a [u8; MAX_ENDPOINTS],
+    domains: &'a [u32; MAX_ENDPOINTS],
+    logged: &'a [usize; MAX_GUESTS],
+    lost: &'a [u32; MAX_GUESTS],
+    reasons: &'a [u8; FAULT_PLACES],
+    flags: &'a [u32; FAULT_PLACES],
+    sources: &'a [u32; FAULT_PLACES],
+    addresses: &'a [u64; FAULT_PLACES],
     t: &'a [u64],
 ) -> bool
     ensures { λ r. ⌜ r ≡ sound (deviceOf settings listed live (now (endpoints .entry)) (now (owners .entry)) (now (attached .entry)) (now (domains .entry)) (now (logged .entry)) (now (lost .entry)) (now (reasons .entry)) (now (flags .entry)) (now (sources .entry)) (now (addresses .entry)) (now (t .entry))) ⌝ }

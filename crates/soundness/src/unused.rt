@@ -4,6 +4,8 @@ ghost use Rattle.laws.specs.Lists.{every?};
 ghost use Rattle.rules.specs.Sound.{unusedTests};
 ghost use Rattle.soundness.specs.Pieces.{withoutFaults};
 use rules::Settings;
+use rules::sizes::MAX_ENDPOINTS;
+use rules::sizes::MAX_GUESTS;
 use zeros::zero_u8;
 use zeros::zero_u32;
 use zeros::zero_u64;
@@ -13,12 +15,12 @@ use zeros::zero_usize;
 pub(crate) fn unused_zero<'a>(
     settings: Settings,
     listed: usize,
-    endpoints: &'a [u32; 32],
-    owners: &'a [u8; 32],
-    attached: &'a [u8; 32],
-    domains: &'a [u32; 32],
-    logged: &'a [usize; 4],
-    lost: &'a [u32; 4],
+    endpoints: &'a [u32; MAX_ENDPOINTS],
+    owners: &'a [u8; MAX_ENDPOINTS],
+    attached: &'a [u8; MAX_ENDPOINTS],
+    domains: &'a [u32; MAX_ENDPOINTS],
+    logged: &'a [usize; MAX_GUESTS],
+    lost: &'a [u32; MAX_GUESTS],
 ) -> bool
     ensures { λ r. ⌜ r ≡ every? (unusedTests (withoutFaults settings listed (now (endpoints .entry)) (now (owners .entry)) (now (attached .entry)) (now (domains .entry)) (now (logged .entry)) (now (lost .entry)))) ⌝ }
 {

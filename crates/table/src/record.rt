@@ -2,16 +2,15 @@
 ghost use mathlib.Core.Path.{_≡_};
 ghost use Prim.Native.Nat.{_+_, _*_, _<_, _≤_};
 ghost use lib.ListN.{length, getD, take};
+ghost use Rattle.rules.specs.Sizes.{recordWords};
 ghost use Rattle.rules.specs.Table.{records};
 ghost use Rattle.table.specs.Records.{noMapping, loaded};
 use rules::Mapping;
-
-// The words of a record.
-pub const RECORD_WORDS: usize = 5;
+use rules::sizes::RECORD_WORDS;
 
 // The record in the five words from at on.
 fn load(t: &[u64], at: usize) -> Mapping
-    requires { ⌜ at + 5 ≤ length (now t) ⌝ }
+    requires { ⌜ at + recordWords ≤ length (now t) ⌝ }
     ensures { λ r. ⌜ r ≡ loaded (now (t .entry)) at ⌝ }
 {
     Mapping {
@@ -49,7 +48,7 @@ pub fn get(t: &[u64], i: usize) -> Mapping
 
 // The smaller of live and the number of whole records.
 pub fn bounded(t: &[u64], live: usize) -> usize
-    ensures { λ n. ⌜ (n ≡ length (take live (records (now (t .entry))))) × (n ≤ length (records (now (t .entry)))) × (5 * n ≤ length (now (t .entry))) ⌝ }
+    ensures { λ n. ⌜ (n ≡ length (take live (records (now (t .entry))))) × (n ≤ length (records (now (t .entry)))) × (recordWords * n ≤ length (now (t .entry))) ⌝ }
 {
     let whole = t.len() / RECORD_WORDS;
     if live < whole { live } else { whole }

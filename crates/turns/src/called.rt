@@ -1,10 +1,12 @@
 // Records that start the device or call it.
-ghost use Prim.Native.Nat.{_+_, _≤_};
+ghost use Prim.Native.Nat.{_+_, _*_, _≤_};
 ghost use lib.ListN.{length};
 ghost use Rattle.items.specs.declared.Item.the-variants as item;
 ghost use Rattle.items.specs.Items.{Fits};
+ghost use Rattle.rules.specs.Sizes.{maxFaults, faultSize};
 ghost use Rattle.rules.specs.Device.{step, fetch-for};
 ghost use Rattle.effects.specs.Flat.{device};
+ghost use Rattle.fetch_lines.specs.Lines.{fetchRoom};
 ghost use Rattle.playing.specs.Turns.{turnOf, fetchedTurn};
 ghost use Rattle.playing.specs.Telling.{Tells};
 use fetch_lines::put_fetch;
@@ -19,6 +21,8 @@ use playing::results::worked;
 use rules::Endpoint;
 use rules::Guest;
 use rules::State;
+use rules::sizes::FAULT_SIZE;
+use rules::sizes::MAX_FAULTS;
 
 // The letters of a start's and a reset's line.
 const LETTER_S: u8 = 83;
@@ -34,7 +38,7 @@ pub(crate) fn start(
     out: &mut [u8],
     at: usize,
 ) -> Turned
-    requires { ⌜ at + 848 ≤ length (now out) ⌝ }
+    requires { ⌜ at + fetchRoom ≤ length (now out) ⌝ }
     ensures { λ r. ⌜ Tells r (now (t .exit)) (now (out .entry)) (now (out .exit)) at (turnOf p (now (t .entry)) (now (s .entry)) (item.Start f)) ⌝ }
 {
     if p.started {
@@ -57,7 +61,7 @@ pub(crate) fn request(
     out: &mut [u8],
     at: usize,
 ) -> Turned
-    requires { ⌜ Fits (now s) × (at + 848 ≤ length (now out)) ⌝ }
+    requires { ⌜ Fits (now s) × (at + fetchRoom ≤ length (now out)) ⌝ }
     ensures { λ r. ⌜ Tells r (now (t .exit)) (now (out .entry)) (now (out .exit)) at (turnOf p (now (t .entry)) (now (s .entry)) (item.Request g)) ⌝ }
 {
     if !p.started {
@@ -84,7 +88,7 @@ pub(crate) fn access(
     out: &mut [u8],
     at: usize,
 ) -> Turned
-    requires { ⌜ at + 848 ≤ length (now out) ⌝ }
+    requires { ⌜ at + fetchRoom ≤ length (now out) ⌝ }
     ensures { λ r. ⌜ Tells r (now (t .entry)) (now (out .entry)) (now (out .exit)) at (turnOf p (now (t .entry)) (now (s .entry)) (item.Access e address kind)) ⌝ }
 {
     if !p.started {
@@ -107,7 +111,7 @@ pub(crate) fn reset(
     out: &mut [u8],
     at: usize,
 ) -> Turned
-    requires { ⌜ at + 848 ≤ length (now out) ⌝ }
+    requires { ⌜ at + fetchRoom ≤ length (now out) ⌝ }
     ensures { λ r. ⌜ Tells r (now (t .exit)) (now (out .entry)) (now (out .exit)) at (turnOf p (now (t .entry)) (now (s .entry)) (item.Reset g)) ⌝ }
 {
     if !p.started {
@@ -121,7 +125,10 @@ pub(crate) fn reset(
     worked(true, next, items::size_of(s), k)
 }
 
-// A fetch into a buffer for at most 16 records.
+// The bytes of as many fault records as a fetch may ask for.
+const FETCH_BUFFER: usize = FAULT_SIZE * MAX_FAULTS;
+
+// A fetch into a buffer for no more records than may be asked for.
 fn fetch_into(
     state: State,
     t: &[u64],
@@ -131,7 +138,7 @@ fn fetch_into(
     out: &mut [u8],
     at: usize,
 ) -> Turned
-    requires { ⌜ (length (now buffer) ≤ 384) × (at + 848 ≤ length (now out)) ⌝ }
+    requires { ⌜ (length (now buffer) ≤ faultSize * maxFaults) × (at + fetchRoom ≤ length (now out)) ⌝ }
     ensures { λ r. ⌜ Tells r (now (t .entry)) (now (out .entry)) (now (out .exit)) at (fetchedTurn (now (s .entry)) (step (device state (now (t .entry))) (fetch-for g (now (buffer .entry))))) ⌝ }
 {
     let given = fetches::fetch(state, t, g, buffer);
@@ -151,14 +158,14 @@ pub(crate) fn fetch(
     out: &mut [u8],
     at: usize,
 ) -> Turned
-    requires { ⌜ (n ≤ 16) × (at + 848 ≤ length (now out)) ⌝ }
+    requires { ⌜ (n ≤ maxFaults) × (at + fetchRoom ≤ length (now out)) ⌝ }
     ensures { λ r. ⌜ Tells r (now (t .entry)) (now (out .entry)) (now (out .exit)) at (turnOf p (now (t .entry)) (now (s .entry)) (item.Fetch g n)) ⌝ }
 {
     if !p.started {
         return idle(p, true);
     }
     let state = p.state;
-    let mut buffer: [u8; 384] = [0; 384];
-    let m = 24 * n;
+    let mut buffer: [u8; FETCH_BUFFER] = [0; FETCH_BUFFER];
+    let m = FAULT_SIZE * n;
     fetch_into(state, t, s, g, &mut buffer[..m], out, at)
 }

@@ -4,24 +4,22 @@ mod called;
 ghost use lib.ListN.{length};
 ghost use Rattle.playing.specs.Turns as turns;
 ghost use Rattle.playing.specs.Telling.{Tells};
+use fetch_lines::FETCH_ROOM;
 use items::Item;
 use playing::named;
 use playing::player::Player;
 use playing::player::Turned;
 use playing::results::idle;
 
-// The room that the lines of one record may take.
-const TURN_ROOM: usize = 848;
-
 // The record at the front of s, the rest of a journal; its lines are put at place `at`. None is worked where there may be
 // no room for them.
 pub fn turn(p: Player, t: &mut [u64], s: &[u8], out: &mut [u8], at: usize) -> Turned
     ensures { λ r. ⌜ Tells r (now (t .exit)) (now (out .entry)) (now (out .exit)) at (turns.turnIn (length (now (out .entry))) at p (now (t .entry)) (now (s .entry))) ⌝ }
 {
-    if out.len() < TURN_ROOM {
+    if out.len() < FETCH_ROOM {
         return idle(p, false);
     }
-    if out.len() - TURN_ROOM < at {
+    if out.len() - FETCH_ROOM < at {
         return idle(p, false);
     }
     match items::front(s) {

@@ -1,6 +1,7 @@
 // UNMAP, on the state's arrays and the table's words.
 ghost use mathlib.Core.Path.{_≡_};
 ghost use mathlib.Core.List.{[], _∷_};
+ghost use Rattle.rules.specs.Requests.{INVAL, RANGE, NOENT};
 ghost use Rattle.effects.specs.Flat.{device, firstOf, unmapStatus, unmapFlat};
 ghost use Rattle.effects.specs.Outcome.{outcome};
 use effects::Handled;
@@ -9,24 +10,28 @@ use moves::remove;
 use rules::Domain;
 use rules::Guest;
 use rules::State;
+use rules::statuses::INVAL;
+use rules::statuses::NOENT;
+use rules::statuses::OK;
+use rules::statuses::RANGE;
 
 // The status of UNMAP by its steps.
 fn first_unmap(missing: bool, reserved: bool, order: bool, split: bool) -> u8
-    ensures { λ x. ⌜ x ≡ firstOf ((missing, 6) ∷ (reserved, 4) ∷ (order, 5) ∷ (split, 5) ∷ []) ⌝ }
+    ensures { λ x. ⌜ x ≡ firstOf ((missing, NOENT) ∷ (reserved, INVAL) ∷ (order, RANGE) ∷ (split, RANGE) ∷ []) ⌝ }
 {
     if missing {
-        return 6;
+        return NOENT;
     }
     if reserved {
-        return 4;
+        return INVAL;
     }
     if order {
-        return 5;
+        return RANGE;
     }
     if split {
-        return 5;
+        return RANGE;
     }
-    0
+    OK
 }
 
 // The status of UNMAP for a guest, a domain and the addresses from a to b.
@@ -43,7 +48,7 @@ pub fn unmap(s: State, t: &mut [u64], g: Guest, d: Domain, a: u64, b: u64, reser
     ensures { λ x. ⌜ outcome x (now (t .exit)) ≡ unmapFlat (device s (now (t .entry))) g d a b reserved ⌝ }
 {
     let status = unmap_status(s, t, g, d, a, b, reserved);
-    if status != 0 {
+    if status != OK {
         return Handled {
             status: status,
             state: s,
@@ -52,7 +57,7 @@ pub fn unmap(s: State, t: &mut [u64], g: Guest, d: Domain, a: u64, b: u64, reser
     let key = key_of(g, d);
     let next = remove(s, t, key, key, a, b);
     Handled {
-        status: 0,
+        status: OK,
         state: next,
     }
 }

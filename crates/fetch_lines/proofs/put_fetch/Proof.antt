@@ -7,7 +7,7 @@ use lib.ListN.{length}
 use borrow.Author.Tests.{not-true, not-false, leb-true}
 use Rattle.printing.specs.Text.{newline, decimal}
 use Rattle.plain_lines.specs.Plain.{numberLine}
-use Rattle.fetch_lines.specs.Lines.{fetchLines, fetchFits, recordLines}
+use Rattle.fetch_lines.specs.Lines.{fetchRoom, fetchLines, fetchFits, recordLines}
 use Rattle.printing.specs.Placing.{written, writtenCount}
 use Rattle.printing.proofs.Places.{Put, put-then, placed-room, placed-next, put-named, put-whole, put-none, written-named, written-within, put-tested}
 use Rattle.fetch_lines.proofs.Wording.{fetchHead, fetch-given, fetch-refused, fits}
@@ -25,9 +25,9 @@ none c =
     let s = c .before .before in
     let a = s .before .before .before .before .args in
     let lines = fetchLines (a .a) (a .buffer .now) in
-    put-tested (fetchFits (a .a) (a .buffer .now)) (writtenCount 848 (a .at) lines (a .out .now)) (written 848 (a .at) lines (a .out .now)) (a .out .now)
+    put-tested (fetchFits (a .a) (a .buffer .now)) (writtenCount fetchRoom (a .at) lines (a .out .now)) (written fetchRoom (a .at) lines (a .out .now)) (a .out .now)
     (sym (s .before .fetch-fits .ensures) ∙ not-false (s .before .fetch-fits .result) (s .if1 .left))
-    (put-none 848 (a .at) lines (a .out .now) (sym (r .ensures) ∙ not-true (r .result) (c .if2 .taken)))
+    (put-none fetchRoom (a .at) lines (a .out .now) (sym (r .ensures) ∙ not-true (r .result) (c .if2 .taken)))
 
 refused : tie.Need-returns-3
 refused c =
@@ -37,11 +37,11 @@ refused c =
     let s = t .before .before .before .before in
     let a = s .before .before .before .before .args in
     let lines = fetchLines (a .a) (a .buffer .now) in
-    put-tested (fetchFits (a .a) (a .buffer .now)) (writtenCount 848 (a .at) lines (a .out .now)) (written 848 (a .at) lines (a .out .now)) (a .out .now)
+    put-tested (fetchFits (a .a) (a .buffer .now)) (writtenCount fetchRoom (a .at) lines (a .out .now)) (written fetchRoom (a .at) lines (a .out .now)) (a .out .now)
     (sym (s .before .fetch-fits .ensures) ∙ not-false (s .before .fetch-fits .result) (s .if1 .left))
-    (written-named 848 (a .at) lines (numberLine 70 (a .a)) (a .out .now)
+    (written-named fetchRoom (a .at) lines (numberLine 70 (a .a)) (a .out .now)
     (fetch-refused (a .a) (λ h. t .if3 .taken (t .before .number-of .ensures ∙ h)) (a .buffer .now))
-    (written-within 64 848 (a .at) (numberLine 70 (a .a)) (a .out .now) (omega arith) (leb-true (a .at + 848) (length (a .out .now)) (sym (r .ensures) ∙ not-false (r .result) (t .before .before .if2 .left))) (p .put-number .ensures)))
+    (written-within 64 fetchRoom (a .at) (numberLine 70 (a .a)) (a .out .now) (omega arith) (leb-true (a .at + fetchRoom) (length (a .out .now)) (sym (r .ensures) ∙ not-false (r .result) (t .before .before .if2 .left))) (p .put-number .ensures)))
 
 records-requires : tie.Need-put-records-requires
 records-requires c κs =
@@ -51,7 +51,7 @@ records-requires c κs =
     let r = t .before .before .before .has-room in
     let s = t .before .before .before .before in
     let a = s .before .before .before .before .args in
-    let room : a .at + 848 ≤ length (a .out .now) = leb-true (a .at + 848) (length (a .out .now)) (sym (r .ensures) ∙ not-false (r .result) (t .before .before .if2 .left)) in
+    let room : a .at + fetchRoom ≤ length (a .out .now) = leb-true (a .at + fetchRoom) (length (a .out .now)) (sym (r .ensures) ∙ not-false (r .result) (t .before .before .if2 .left)) in
     let first : Put (a .at) fetchHead (a .out .now) (p .put-bytes .result) (p .put-bytes .last .0) = placed-room 4 (a .at) fetchHead (a .out .now) (omega (arith, room)) (p .put-bytes .ensures) in
     let f = fits (a .a) (a .buffer .now) (sym (s .before .fetch-fits .ensures) ∙ not-false (s .before .fetch-fits .result) (s .if1 .left)) in
     (omega arith, omega arith, omega (arith, room, first .0, d .put-decimal .ensures .2))
@@ -71,15 +71,15 @@ given c =
     let count = decimal n ++ (newline ∷ []) in
     let lines = fetchLines (a .a) buffer in
     let yes = sym (r .ensures) ∙ not-false (r .result) (t .before .before .if2 .left) in
-    let room : a .at + 848 ≤ length (a .out .now) = leb-true (a .at + 848) (length (a .out .now)) yes in
+    let room : a .at + fetchRoom ≤ length (a .out .now) = leb-true (a .at + fetchRoom) (length (a .out .now)) yes in
     let head : Put (a .at) fetchHead (a .out .now) (p .put-bytes .result) (p .put-bytes .last .0) = placed-room 4 (a .at) fetchHead (a .out .now) (omega (arith, room)) (p .put-bytes .ensures) in
     let first : Put (a .at) (fetchHead ++ count) (a .out .now) (d .put-decimal .result) (d .put-decimal .last .0) =
     placed-next 21 (a .at) fetchHead count (a .out .now) (omega (arith, room)) head (d .put-decimal .ensures .0, d .put-decimal .ensures .1) in
     let named : lines ≡ (fetchHead ++ count) ++ recordLines n buffer =
     fetch-given (a .a) (sym (t .before .number-of .ensures) ∙ t .if3 .left) buffer ∙ ap (λ m. (fetchHead ++ (decimal m ++ (newline ∷ []))) ++ recordLines m buffer) (sym (k .count-of .ensures)) in
-    put-tested (fetchFits (a .a) buffer) (writtenCount 848 (a .at) lines (a .out .now)) (written 848 (a .at) lines (a .out .now)) (a .out .now)
+    put-tested (fetchFits (a .a) buffer) (writtenCount fetchRoom (a .at) lines (a .out .now)) (written fetchRoom (a .at) lines (a .out .now)) (a .out .now)
     (sym (s .before .fetch-fits .ensures) ∙ not-false (s .before .fetch-fits .result) (s .if1 .left))
-    (put-whole 848 (a .at) lines (a .out .now) yes
+    (put-whole fetchRoom (a .at) lines (a .out .now) yes
     (put-named (a .at) lines ((fetchHead ++ count) ++ recordLines n buffer) (a .out .now) named
     (put-then (a .at) (fetchHead ++ count) (recordLines n buffer) (a .out .now) (omega (arith, head .0, first .0, d .put-decimal .ensures .2, room)) first
     (q .put-records .ensures))))

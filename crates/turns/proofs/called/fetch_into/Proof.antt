@@ -2,8 +2,7 @@ use mathlib.Core.Path.{_≡_, refl}
 use borrow.Author.Needs.{needs}
 use lib.ListN.{length}
 use Rattle.effects.specs.Flat.{device}
-use Rattle.fetch_lines.specs.Lines.{fetchLines}
-use Rattle.printing.specs.Placing.{fetchRoom}
+use Rattle.fetch_lines.specs.Lines.{fetchRoom, fetchLines}
 use Rattle.turns.proofs.Counting.{fetch-fits}
 use Rattle.playing.proofs.Telling.{tells-call}
 use Rattle.turns.proofs.called.fetch_into.Statement.{statement}

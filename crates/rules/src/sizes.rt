@@ -1,0 +1,31 @@
+// The sizes of document 01, each named once for the code, as specs/Sizes.antt names them for the definitions.
+
+// The guests that there may be.
+pub const MAX_GUESTS: usize = 4;
+
+// The endpoints that there may be.
+pub const MAX_ENDPOINTS: usize = 32;
+
+// The records that the mapping table has room for.
+pub const MAX_RECORDS: usize = 256;
+
+// The words of a record.
+pub const RECORD_WORDS: usize = 5;
+
+// The words of the mapping table.
+pub const TABLE_WORDS: usize = RECORD_WORDS * MAX_RECORDS;
+
+// The faults that a guest's log has room for.
+pub const MAX_FAULTS: usize = 16;
+
+// The places for the faults of all guests.
+pub const FAULT_PLACES: usize = MAX_FAULTS * MAX_GUESTS;
+
+// Where a lost count stops.
+pub const MAX_LOST: u32 = 65535;
+
+// The bytes of a fault record.
+pub const FAULT_SIZE: usize = 24;
+
+// What the guest's number is multiplied by in a record's first word.
+pub const DOMAIN_SPAN: u64 = 4294967296;
