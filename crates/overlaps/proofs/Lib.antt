@@ -1,1 +1,2 @@
 mod Passing
+mod Ways

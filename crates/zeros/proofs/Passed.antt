@@ -10,7 +10,7 @@ use borrow.Author.Tests.{eqb-true, eq-eqb}
 use lib.ListN.{length, getD, drop, drop-of-length-le}
 use Rattle.laws.specs.Lists.{all?}
 use Rattle.laws.proofs.Turns.{drop-next}
-use Rattle.laws.proofs.Tests.{both, both-left, both-right, same-test}
+use Rattle.laws.proofs.Tests.{both, both-left, both-right, same-test, eqb-turn}
 
 -- numbers whose bits together are zero
 zero-or : (a b : ℕ) → eqb 0 (bitOr a b) ≡ (eqb 0 a && eqb 0 b)
@@ -26,9 +26,6 @@ zero-or a b =
     let x : 0 ≡ a = eqb-true 0 a (both-left (eqb 0 a) (eqb 0 b) e) in
     let y : 0 ≡ b = eqb-true 0 b (both-right (eqb 0 a) (eqb 0 b) e) in
     rw (← x, ← y))
-
-eqb-turn : (a b : ℕ) → eqb a b ≡ eqb b a
-eqb-turn a b = same-test (eqb a b) (eqb b a) (λ e. eq-eqb b a (sym (eqb-true a b e))) (λ e. eq-eqb a b (sym (eqb-true b a e)))
 
 module _ (l : List ℕ) (bits i : ℕ) where
   pub zeros-on : i < length l → (eqb 0 bits && all? (eqb 0) (drop i l)) ≡ (eqb 0 (bitOr bits (getD l i 0)) && all? (eqb 0) (drop (i + 1) l))

@@ -1,46 +1,19 @@
 -- `overlaps::overlaps` meets its contract. Assumes nothing.
-use native.Mathlib.Omega.{arith}
 use borrow.Author.Needs.{needs}
-use Prim.Native.Nat.{_≤_, _-_}
-use mathlib.Core.Path.{_≡_, refl, sym, _∙_}
-use mathlib.Core.Bool.{_||_, or-false}
-use lib.ListN.{take, drop}
-use Rattle.laws.specs.Lists.{any?}
-use Rattle.rules.specs.Table.{records}
-use Rattle.rules.specs.Table.{overlap}
-use Rattle.table.specs.Records.{noMapping}
-use Rattle.table.proofs.Laws.{gone}
-use Rattle.overlaps.proofs.Passing.{any-on}
+use mathlib.Core.Path.{_∙_}
+use mathlib.Core.Bool.{true}
+use lib.ListN.{take}
+use Rattle.rules.specs.Table.{records, overlap}
+use Rattle.laws.proofs.Filters.{any-same}
+use Rattle.overlaps.specs.Met.{met}
+use Rattle.overlaps.proofs.Ways.{met-overlaps}
 use Rattle.overlaps.proofs.overlaps.Statement.{statement}
 use Rattle.overlaps.proofs.overlaps.Tie as tie
 
-abbrev Inv-loop : tie.InvT-loop
-Inv-loop t live r n found₀ i₀ found i =
-    (i ≤ n) × (any? (overlap r) (take live (records t)) ≡ (found || any? (overlap r) (drop i (take live (records t)))))
-
-abbrev μ-loop : tie.MeasureT-loop
-μ-loop t live r n found₀ i₀ found i = n - i
-
-loop-again : tie.Need-loop-again Inv-loop μ-loop
-loop-again c =
-    let s = c .before .before .before in
-    let a = s .before .before .before .args in
-    let g = any-on (overlap (a .r)) noMapping (records (a .t .now)) (a .live) (s .loop .i) (omega arith) (s .loop .found) in
-    (omega arith, s .loop .inv .1 ∙ g ∙ rw (c .meets .ensures, c .before .get .ensures))
-
-returns : tie.Need-returns Inv-loop μ-loop
+returns : tie.Need-returns
 returns c =
-    let s = c .before in
-    let a = s .before .before .before .args in
-    sym (s .loop .inv .1 ∙ rw (gone (records (a .t .now)) (a .live) (s .loop .i) (omega arith)) (or-false (s .loop .found)))
+    let a = c .before .before .args in
+    c .any-met .ensures ∙ any-same (met (a .r .key) (a .r .start) (a .r .end) true) (overlap (a .r)) (take (a .live) (records (a .t .now))) (met-overlaps (a .r))
 
 pub overlaps-spec : {M : Type 1} → statement M
-overlaps-spec =
-    tie.close
-    (tie.spec
-    Inv-loop
-    μ-loop
-    (λ c κs. search needs) (λ c. (omega arith, refl)) (λ c κs. search needs) (λ c κs. search needs)
-    (λ c. search needs) (λ c. search needs)
-    loop-again
-    returns)
+overlaps-spec = tie.close (tie.spec (λ c κs. search needs) returns)

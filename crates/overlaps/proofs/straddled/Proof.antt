@@ -1,46 +1,20 @@
 -- `overlaps::straddled` meets its contract. Assumes nothing.
-use native.Mathlib.Omega.{arith}
 use borrow.Author.Needs.{needs}
-use Prim.Native.Nat.{_≤_, _-_}
-use mathlib.Core.Path.{_≡_, refl, sym, _∙_}
-use mathlib.Core.Bool.{_||_, or-false}
-use lib.ListN.{take, drop}
-use Rattle.laws.specs.Lists.{any?}
+use mathlib.Core.Path.{_∙_}
+use mathlib.Core.Bool.{false}
+use lib.ListN.{take}
 use Rattle.rules.specs.Table.{records}
 use Rattle.rules.specs.Handlers.{straddles}
-use Rattle.table.specs.Records.{noMapping}
-use Rattle.table.proofs.Laws.{gone}
-use Rattle.overlaps.proofs.Passing.{any-on}
+use Rattle.laws.proofs.Filters.{any-same}
+use Rattle.overlaps.specs.Met.{met}
+use Rattle.overlaps.proofs.Ways.{met-straddles}
 use Rattle.overlaps.proofs.straddled.Statement.{statement}
 use Rattle.overlaps.proofs.straddled.Tie as tie
 
-abbrev Inv-loop : tie.InvT-loop
-Inv-loop t live key a b n found₀ i₀ found i =
-    (i ≤ n) × (any? (straddles key a b) (take live (records t)) ≡ (found || any? (straddles key a b) (drop i (take live (records t)))))
-
-abbrev μ-loop : tie.MeasureT-loop
-μ-loop t live key a b n found₀ i₀ found i = n - i
-
-loop-again : tie.Need-loop-again Inv-loop μ-loop
-loop-again c =
-    let s = c .before .before .before in
-    let a = s .before .before .before .args in
-    let g = any-on (straddles (a .key) (a .a) (a .b)) noMapping (records (a .t .now)) (a .live) (s .loop .i) (omega arith) (s .loop .found) in
-    (omega arith, s .loop .inv .1 ∙ g ∙ rw (c .is-split .ensures, c .before .get .ensures))
-
-returns : tie.Need-returns Inv-loop μ-loop
+returns : tie.Need-returns
 returns c =
-    let s = c .before in
-    let a = s .before .before .before .args in
-    sym (s .loop .inv .1 ∙ rw (gone (records (a .t .now)) (a .live) (s .loop .i) (omega arith)) (or-false (s .loop .found)))
+    let a = c .before .before .args in
+    c .any-met .ensures ∙ any-same (met (a .key) (a .a) (a .b) false) (straddles (a .key) (a .a) (a .b)) (take (a .live) (records (a .t .now))) (met-straddles (a .key) (a .a) (a .b))
 
 pub straddled-spec : {M : Type 1} → statement M
-straddled-spec =
-    tie.close
-    (tie.spec
-    Inv-loop
-    μ-loop
-    (λ c κs. search needs) (λ c. (omega arith, refl)) (λ c κs. search needs) (λ c κs. search needs)
-    (λ c. search needs) (λ c. search needs)
-    loop-again
-    returns)
+straddled-spec = tie.close (tie.spec (λ c κs. search needs) returns)
