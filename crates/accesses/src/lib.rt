@@ -5,7 +5,7 @@ mod deciding;
 ghost use mathlib.Core.Path.{_≡_};
 ghost use mathlib.Core.List.{[]};
 ghost use Rattle.rules.specs.Device.{step, access-by};
-ghost use Rattle.sound_logs.specs.Faults.{stateWith};
+ghost use Rattle.state.specs.Pieces.{stateWith};
 ghost use Rattle.soundness.specs.Pieces.{deviceOf};
 ghost use Rattle.effects.specs.Flat.{device};
 ghost use Rattle.effects.specs.Checked.{Shaped, replied};

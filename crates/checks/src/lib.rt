@@ -3,7 +3,7 @@ ghost use mathlib.Core.Path.{_≡_};
 ghost use Prim.Native.Nat.{ℕ, _≤_};
 ghost use Rattle.rules.specs.Configuration.{last};
 ghost use Rattle.rules.specs.Sound.{sound};
-ghost use Rattle.sound_logs.specs.Faults.{stateWith};
+ghost use Rattle.state.specs.Pieces.{stateWith};
 ghost use Rattle.soundness.specs.Pieces.{deviceOf};
 ghost use Rattle.effects.specs.Flat.{device};
 ghost use Rattle.effects.specs.Checked.{Shaped};

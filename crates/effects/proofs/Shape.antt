@@ -22,14 +22,10 @@ use Rattle.rules.specs.State.{Log, World, Device, noFault, noLog, configOf, att
 use Rattle.rules.specs.Handlers.{outside}
 use Rattle.rules.specs.Sound.{guest, attachmentGood, zeroFrom, faultZero, faultPlaceGood, unusedTests, sound}
 use Rattle.rules.proofs.Words.{length-records, words-split}
+use Rattle.rules.proofs.Zeros.{zero-at}
 use Rattle.effects.specs.Checked.{Shaped}
 use Rattle.rules.proofs.Worlds.{Good}
 use Rattle.rules.proofs.Reading.{tests, sound-good, sound-listed}
-
-pub zero-at : (n : ℕ) (l : List ℕ) (i : ℕ) → zeroFrom n l ≡ true → n ≤ i → i < length l → getD l i 0 ≡ 0
-unfolding zeroFrom
-zero-at n l i h k m =
-    sym (eqb-true 0 (getD l i 0) (subst (λ (x : ℕ). eqb 0 x ≡ true) (getD-drop n l (i - n) 0 ∙ ap (λ j. getD l j 0) (omega arith)) (all-at (eqb 0) (drop n l) (i - n) 0 h (simp length-drop (omega arith)))))
 
 -- a list by index with zero past n is the list that is zero there
 kept-until : (m n : ℕ) (l : List ℕ) → length l ≡ m → zeroFrom n l ≡ true → tab m (λ g. cond (ltb g n) (getD l g 0) 0) ≡ l

@@ -1,4 +1,5 @@
 pub mod Tests
+pub mod Bits
 pub mod Filters
 pub mod Tables
 pub mod Turns

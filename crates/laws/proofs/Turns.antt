@@ -1,6 +1,6 @@
 -- What one turn of a loop adds: to a test of the numbers below one, and to what is left of a list.
-use Prim.Native.Nat.{ℕ, zero, suc, _+_, _<_}
-use mathlib.Core.Path.{_≡_, refl}
+use Prim.Native.Nat.{ℕ, zero, suc, _+_, _≤_, _<_}
+use mathlib.Core.Path.{_≡_, refl, sym, _∙_}
 use mathlib.Core.Bool.{Bool, true, _&&_}
 use mathlib.Core.List.{List, _∷_}
 use native.Mathlib.Omega.{arith}
@@ -16,6 +16,22 @@ below-none q = refl
 pub below-next : (n : ℕ) (q : ℕ → Bool) → below (n + 1) q ≡ (q n && below n q)
 unfolding below
 below-next n q = rw (add-one n) refl
+
+-- a loop that tests the numbers below n one by one: ok says it of those below i
+pub record Tested (n : ℕ) (q : ℕ → Bool) (ok : Bool) (i : ℕ) : Type 0 where
+  pub within : i ≤ n
+  pub passed : ok ≡ below i q
+
+module _ (n : ℕ) (q : ℕ → Bool) where
+  pub tested-none : Tested n q true 0
+  tested-none = record { within = omega arith; passed = sym (below-none q) }
+
+  -- one number more
+  pub tested-next : (ok b : Bool) (i : ℕ) → Tested n q ok i → i < n → b ≡ q i → Tested n q (b && ok) (i + 1)
+  tested-next ok b i t h e = record { within = omega arith; passed = rw (e, t .passed) (sym (below-next i q)) }
+
+  pub tested-all : (ok : Bool) (i : ℕ) → Tested n q ok i → n ≤ i → ok ≡ below n q
+  tested-all ok i t h = let e : i ≡ n = omega arith in t .passed ∙ rw e
 
 pub below-same : (n : ℕ) (p q : ℕ → Bool) → ((i : ℕ) → i < n → p i ≡ q i) → below n p ≡ below n q
 unfolding below

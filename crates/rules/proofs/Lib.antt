@@ -3,6 +3,7 @@ pub mod Attachments
 pub mod Parts
 pub mod Worlds
 pub mod Words
+pub mod Zeros
 pub mod Shares
 pub mod Writing
 pub mod Kept

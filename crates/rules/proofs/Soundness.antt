@@ -27,6 +27,7 @@ use Rattle.rules.specs.Sound.{guest, recordGood, attachmentGood, faultGo
 use Rattle.rules.proofs.Parts.{inRange, recordOk, logTests, logOk}
 use Rattle.rules.proofs.Worlds.{Good, good-facts, Whole}
 use Rattle.rules.proofs.Words.{length-tableOf, zero-tableOf}
+use Rattle.rules.proofs.Zeros.{zero-from}
 use Rattle.rules.proofs.Shares.{fits}
 use Rattle.rules.proofs.Writing.{kept, config-back, fault-back, read-write}
 use Rattle.rules.proofs.Kept.{good-kept, own-kept, kept-twice, write-kept}
@@ -44,11 +45,7 @@ all-guests n q (r ∷ l) h f =
     go g false k = k
 
 zero-tab : (n m : ℕ) (f : ℕ → ℕ) → ((i : ℕ) → n ≤ i → i < m → f i ≡ 0) → zeroFrom n (tab m f) ≡ true
-unfolding zeroFrom
-zero-tab n m f h = all-of (eqb 0) (drop n (tab m f)) 0 (λ i k. eq-eqb 0 (getD (drop n (tab m f)) i 0) (sym (getD-drop n (tab m f) i 0 ∙ getD-tab m f (n + i) 0 (below-m i k) ∙ h (n + i) (omega arith) (below-m i k))))
-  where
-    below-m : (i : ℕ) → i < length (drop n (tab m f)) → n + i < m
-    below-m i k = omega (arith, k, length-drop n (tab m f), length-tab m f)
+zero-tab n m f h = zero-from n (tab m f) (λ i l k. let b : i < m = rw (length-tab m f) at k in getD-tab m f i 0 b ∙ h i l b)
 
 -- the settings' places, trimmed
 zero-trimmed : (n : ℕ) (f : ℕ → ℕ) → zeroFrom n (tab maxGuests (λ g. cond (ltb g n) (f g) 0)) ≡ true

@@ -1,2 +1,2 @@
 mod Listed
-mod Empty
+mod NoFaults

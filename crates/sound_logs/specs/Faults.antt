@@ -1,34 +1,15 @@
--- The state that the pieces of one make up, and what the test of the fault logs looks at.
+-- What the test of the fault logs looks at.
 use Prim.Native.Nat.{ℕ}
-use mathlib.Core.Bool.{cond}
+use mathlib.Core.Bool.{Bool, cond, _&&_}
 use mathlib.Core.List.{List, []}
-use lib.Dec.{ltb}
+use lib.Dec.{ltb, eqb}
 use lib.ListN.{getD}
 use Rattle.rules.specs.Sizes.{maxGuests}
-use Rattle.rules.specs.declared.Settings.{Settings}
 use Rattle.rules.specs.declared.State.{State}
 use Rattle.rules.specs.State.{zeroState}
 use Rattle.rules.specs.Guests.{Own}
 use Rattle.rules.specs.Sound.{guest}
-
--- the state of these pieces
-abbrev pub stateWith : Settings → ℕ → ℕ → List ℕ → List ℕ → List ℕ → List ℕ → List ℕ → List ℕ → List ℕ → List ℕ → List ℕ → List ℕ → State
-stateWith settings listed live endpoints owners attached domains logged lost reasons flags sources addresses =
-    record {
-      settings = settings;
-      listed = listed;
-      endpoints = endpoints;
-      owners = owners;
-      attached = attached;
-      domains = domains;
-      live = live;
-      logged = logged;
-      lost = lost;
-      reasons = reasons;
-      flags = flags;
-      sources = sources;
-      addresses = addresses;
-    }
+use Rattle.state.specs.Pieces.{stateWith}
 
 -- a state of endpoints and faults alone: what the test of the fault places looks at
 abbrev pub faultsAlone : ℕ → List ℕ → List ℕ → List ℕ → List ℕ → List ℕ → List ℕ → List ℕ → State
@@ -48,6 +29,11 @@ endpointsAlone es =
       domains = record { start = 0; end = 0 };
       endpoints = es;
     }
+
+-- place i of the faults is zero
+abbrev pub placeZero : List ℕ → List ℕ → List ℕ → List ℕ → ℕ → Bool
+placeZero reasons flags sources addresses i =
+    (eqb (getD reasons i 0) 0 && eqb (getD flags i 0) 0) && (eqb (getD sources i 0) 0 && eqb (getD addresses i 0) 0)
 
 -- the owner of the endpoint at place j among the first n; past them a number that is no guest's
 unfoldable pub ownerAmong : ℕ → List ℕ → ℕ → ℕ

@@ -1,4 +1,5 @@
 // The test of the guests' fault logs.
+mod empty;
 mod named;
 
 ghost use mathlib.Core.Path.{_≡_};
@@ -11,6 +12,8 @@ ghost use Rattle.rules.specs.Sizes.{maxEndpoints, faultPlaces};
 ghost use Rattle.rules.specs.State.{configOf};
 ghost use Rattle.rules.specs.Sound.{faultGood, faultZero, faultPlaceGood};
 ghost use Rattle.sound_logs.specs.Faults.{endpointsAlone, faultsAlone};
+use empty::all_zero;
+use empty::none_logged;
 use named::SLOTS;
 use named::hints_of;
 use named::is_named;
@@ -21,10 +24,6 @@ use rules::sizes::FAULT_PLACES;
 use rules::sizes::MAX_ENDPOINTS;
 use rules::sizes::MAX_FAULTS;
 use rules::sizes::MAX_GUESTS;
-use zeros::zero_u8;
-use zeros::zero_u32;
-use zeros::zero_u64;
-use zeros::zero_usize;
 
 // Whether f, at a place that is in use or not, is a fault of guest g or zero.
 fn fault_good<'a>(
@@ -103,10 +102,8 @@ pub fn faults_good<'a>(
     if MAX_ENDPOINTS < n {
         return false;
     }
-    if zero_usize(logged, 0) {
-        // No log has a fault.
-        return (zero_u8(reasons, 0) & zero_u32(flags, 0))
-            & (zero_u32(sources, 0) & zero_u64(addresses, 0));
+    if none_logged(logged) {
+        return all_zero(reasons, flags, sources, addresses);
     }
     places_good(
         n,

@@ -26,6 +26,7 @@ use Rattle.rules.proofs.Records.{wide, apart}
 use Rattle.rules.proofs.Parts.{passes-none, form-wide}
 use Rattle.table.specs.Records.{noMapping}
 use Rattle.forms.specs.Forms.{limits, formGood}
+use Rattle.sound_places.specs.Places.{placeTests}
 use Rattle.sound_records.specs.Scan.{ownGood, domainGood, scan, sharesKept, placesTests}
 use Rattle.sound_records.proofs.Order.{scan-is}
 use Rattle.soundness.specs.Pieces.{frameTests, framed}
@@ -44,17 +45,16 @@ pub refused : (d : Device) (k : ℕ) → getD (soundTests (configOf (d .state)) 
 unfolding sound
 refused d k h = failing (soundTests (configOf (d .state)) (read d) d) k h
 
-pub either-refused : (d : Device) (j k : ℕ) → (getD (soundTests (configOf (d .state)) (read d) d) j true && getD (soundTests (configOf (d .state)) (read d) d) k true) ≡ false → sound d ≡ false
-either-refused d j k h = go (getD (soundTests (configOf (d .state)) (read d) d) j true) refl h
+-- the tests of guest and endpoint places are four of soundness' own
+pub places-refused : (d : Device) → every? (placeTests (d .state)) ≡ false → sound d ≡ false
+unfolding sound configOf
+places-refused d h = go (sound d) refl
   where
-    go : (b : Bool) → getD (soundTests (configOf (d .state)) (read d) d) j true ≡ b → (b && getD (soundTests (configOf (d .state)) (read d) d) k true) ≡ false → sound d ≡ false
-    go true e h = refused d k h
-    go false e h = refused d j e
-
-pub both-passed : (d : Device) (j k : ℕ) → (getD (soundTests (configOf (d .state)) (read d) d) j true && getD (soundTests (configOf (d .state)) (read d) d) k true) ≡ true → Passed d j × Passed d k
-both-passed d j k h =
-    let l = soundTests (configOf (d .state)) (read d) d in
-    (both-left (getD l j true) (getD l k true) h, both-right (getD l j true) (getD l k true) h)
+    go : (b : Bool) → sound d ≡ b → b ≡ false
+    go true e =
+        let t = opened (soundTests (configOf (d .state)) (read d) d) e .1 .1 .1 .1 .1 .1 .1 .1 .1 in
+        true-false (every? (placeTests (d .state))) (closed (placeTests (d .state)) (t .0, (t .1 .0, (t .1 .1 .0, (t .1 .1 .1 .0, tt))))) h
+    go false e = refl
 
 -- what a test says whose first part is known to pass
 pub granted : {r : Bool} (a b v : Bool) → a ≡ true → r ≡ (a && b) → r ≡ v → b ≡ v
@@ -80,7 +80,7 @@ module _ (s : Settings) (n m : ℕ) (es os ws : List ℕ) where
   in-frame h = opened (frameTests s n m es os ws) h
 
   -- the endpoints of a good configuration have places
-  listed-fits : framed s n m es os ws ≡ true → n ≤ 32
+  listed-fits : framed s n m es os ws ≡ true → n ≤ maxEndpoints
   unfolding goodLists
   listed-fits h =
       let t = in-frame h in
@@ -90,13 +90,13 @@ module _ (s : Settings) (n m : ℕ) (es os ws : List ℕ) where
   frame-guests h = settings-guests s (in-frame h .1 .1 .1 .0)
 
   pub frame-endpoints : framed s n m es os ws ≡ true → leb n maxEndpoints ≡ true
-  frame-endpoints h = le-leb n 32 (listed-fits h)
+  frame-endpoints h = le-leb n maxEndpoints (listed-fits h)
 
   -- guests, endpoints and records have places
   pub frame-places : framed s n m es os ws ≡ true → every? (placesTests s n m ws) ≡ true
   frame-places h =
       let t = in-frame h in
-      let l : m ≤ length (records ws) = omega (arith, length-records ws, leb-true m 256 (t .1 .0), eqb-true (length ws) 1280 (t .0)) in
+      let l : m ≤ length (records ws) = omega (arith, length-records ws, leb-true m maxRecords (t .1 .0), eqb-true (length ws) tableWords (t .0)) in
       closed (placesTests s n m ws) (frame-guests h, (lt-ltb 0 (s .mask) (settings-mask s (t .1 .1 .1 .0)), (frame-endpoints h, (le-leb m (length (records ws)) l, tt))))
 
   pub frame-last : eqb (length ws) tableWords ≡ true → leb m maxRecords ≡ true → eqb (length (take n es)) n ≡ true → goodSettings s ≡ true → goodLists s (take n es) (take n os) ≡ framed s n m es os ws
@@ -176,14 +176,15 @@ module _ (d : Device) where
 
   -- where the other tests pass, one pass over the records decides
   pub decided : goodLists (d .state .settings) (take (d .state .listed) (d .state .endpoints)) (take (d .state .listed) (d .state .owners)) ≡ true
-      → Passed d 0 → Passed d 1 → Passed d 2 → Passed d 3 → Passed d 5 → Passed d 9 → Passed d 10 → Passed d 11 → Passed d 12 → Passed d 13
+      → Passed d 0 → Passed d 1 → Passed d 2 → Passed d 3 → Passed d 5 → every? (placeTests (d .state)) ≡ true → Passed d 13
       → sound d ≡ (scan form domain true noMapping live && sharesKept (d .state .settings) live)
   unfolding sound sharesKept configOf read
-  decided h t0 t1 t2 t3 t5 t9 t10 t11 t12 t13 =
+  decided h t0 t1 t2 t3 t5 p t13 =
+      let q = opened (placeTests (d .state)) p in
       let c = configOf (d .state) in
       let s : Bool = below (d .state .settings .guests) (λ g. leb (length (recordsOf (guest g) live)) (share (d .state .settings) g)) in
       let e : sound d ≡ (pairwise before live && (all? (recordGood c (read d)) live && (pairwise apart live && s))) =
-      rest-of _ _ _ _ (pairwise before live) _ (all? (recordGood c (read d)) live) (pairwise apart live) s _ _ _ _ _ t0 t1 t2 t3 t5 t9 t10 t11 t12 t13 in
+      rest-of _ _ _ _ (pairwise before live) _ (all? (recordGood c (read d)) live) (pairwise apart live) s _ _ _ _ _ t0 t1 t2 t3 t5 (q .0) (q .1 .0) (q .1 .1 .0) (q .1 .1 .1 .0) t13 in
       let r : all? (recordGood c (read d)) live ≡ (all? form live && all? domain live) =
       all-both form domain (recordGood c (read d)) live
       (record-is (lists-owners (d .state .settings) (take (d .state .listed) (d .state .endpoints)) (take (d .state .listed) (d .state .owners)) h)) in

@@ -1,4 +1,4 @@
--- The device that the pieces make up which the test of soundness is handed, and the pieces that one part of the test looks at.
+-- The device that the pieces make up which the test of soundness is handed, and the tests that come before all others.
 use Prim.Native.Nat.{ℕ}
 use mathlib.Core.Bool.{Bool}
 use mathlib.Core.List.{List, [], _∷_}
@@ -7,10 +7,9 @@ use lib.ListN.{length, take}
 use Rattle.laws.specs.Lists.{every?}
 use Rattle.rules.specs.Sizes.{maxRecords, tableWords}
 use Rattle.rules.specs.declared.Settings.{Settings}
-use Rattle.rules.specs.declared.State.{State}
 use Rattle.rules.specs.Configuration.{goodSettings, goodLists}
 use Rattle.rules.specs.State.{Device}
-use Rattle.sound_logs.specs.Faults.{stateWith}
+use Rattle.state.specs.Pieces.{stateWith}
 
 -- state and table of these pieces
 abbrev pub deviceOf : Settings → ℕ → ℕ → List ℕ → List ℕ → List ℕ → List ℕ → List ℕ → List ℕ → List ℕ → List ℕ → List ℕ → List ℕ → List ℕ → Device
@@ -29,8 +28,3 @@ frameTests settings listed live endpoints owners table =
 
 unfoldable pub framed : Settings → ℕ → ℕ → List ℕ → List ℕ → List ℕ → Bool
 framed settings listed live endpoints owners table = every? (frameTests settings listed live endpoints owners table)
-
--- a state without faults: what the test of unused places looks at
-abbrev pub withoutFaults : Settings → ℕ → List ℕ → List ℕ → List ℕ → List ℕ → List ℕ → List ℕ → State
-withoutFaults settings listed endpoints owners attached domains logged lost =
-    stateWith settings listed 0 endpoints owners attached domains logged lost [] [] [] []

@@ -1,6 +1,4 @@
 // The test that a state and a table are sound.
-mod unused;
-
 ghost use mathlib.Core.Path.{_≡_};
 ghost use lib.Dec.{eqb};
 ghost use lib.ListN.{length, take};
@@ -16,11 +14,9 @@ use rules::sizes::RECORD_WORDS;
 use rules::sizes::TABLE_WORDS;
 use settings::good_settings;
 use sound_logs::faults_good;
-use sound_places::attachments_good;
-use sound_places::counts_good;
+use sound_places::places_good;
 use sound_records::records_good;
-use unused::unused_zero;
-use zeros::zero_u64;
+use zeros::zero_from;
 
 // Whether there are n endpoints.
 fn has_places(endpoints: &[u32], n: usize) -> bool
@@ -77,7 +73,7 @@ pub fn is_sound<'a>(
     if !frame_good(settings, listed, live, endpoints, owners, t) {
         return false;
     }
-    if !unused_zero(
+    if !places_good(
         settings,
         listed,
         endpoints,
@@ -87,12 +83,6 @@ pub fn is_sound<'a>(
         logged,
         lost,
     ) {
-        return false;
-    }
-    if !attachments_good(settings.domains, listed, attached, domains) {
-        return false;
-    }
-    if !counts_good(settings.guests, logged, lost) {
         return false;
     }
     if !faults_good(
@@ -107,7 +97,7 @@ pub fn is_sound<'a>(
     ) {
         return false;
     }
-    if !zero_u64(t, RECORD_WORDS * live) {
+    if !zero_from(t, RECORD_WORDS * live) {
         return false;
     }
     records_good(settings, listed, live, owners, attached, domains, t)

@@ -5,7 +5,7 @@ use mathlib.Core.Path.{refl, sym, ap, _∙_}
 use Rattle.rules.specs.declared.State.{State}
 use Rattle.rules.specs.State.{Device}
 use Rattle.rules.specs.Device.{Reply}
-use Rattle.sound_logs.specs.Faults.{stateWith}
+use Rattle.state.specs.Pieces.{stateWith}
 use Rattle.effects.specs.Flat.{accessed}
 use Rattle.effects.proofs.Entries.{access-unsound, access-works, listed-fits, lands-fit}
 use Rattle.accesses.proofs.access_answer.Statement.{statement}

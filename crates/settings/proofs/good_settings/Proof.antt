@@ -1,3 +1,4 @@
+-- `settings::good_settings` meets its contract. Assumes nothing.
 use borrow.Author.Needs.{needs}
 use borrow.Author.Tests.{lt-leb, le-leb, lt-ltb}
 use Prim.Native.Nat.{_<_, _^_}

@@ -1,38 +1,26 @@
--- ok says it of the guests below g.
+-- `settings::windows_filled` meets its contract. Assumes nothing.
 use native.Mathlib.Omega.{arith}
 use borrow.Author.Needs.{needs}
 use Prim.Native.Nat.{_≤_, _-_}
-use mathlib.Core.Path.{_≡_, sym}
+use mathlib.Core.Path.{refl}
 use lib.Dec.{leb}
 use lib.ListN.{getD}
-use Rattle.laws.specs.Lists.{below}
-use Rattle.rules.specs.Configuration.{first, last}
-use Rattle.laws.proofs.Turns.{below-none, below-next}
+use Rattle.laws.proofs.Turns.{Tested, tested-none, tested-next, tested-all}
+use Rattle.rules.specs.Sizes.{maxGuests}
 use Rattle.settings.proofs.windows_filled.Statement.{statement}
 use Rattle.settings.proofs.windows_filled.Tie as tie
 
 abbrev Inv-loop : tie.InvT-loop
-Inv-loop n firsts lasts ok₀ g₀ ok g = (g ≤ n) × (n ≤ 4) × (ok ≡ below g (λ h. leb (getD firsts h 0) (getD lasts h 0)))
+Inv-loop n firsts lasts ok₀ g₀ ok g = (n ≤ maxGuests) × Tested n (λ h. leb (getD firsts h 0) (getD lasts h 0)) ok g
 
 abbrev μ-loop : tie.MeasureT-loop
 μ-loop n firsts lasts ok₀ g₀ ok g = n - g
 
-loop-holds : tie.Need-loop-holds Inv-loop μ-loop
-loop-holds c =
-    let s = c .before .before .args .s in
-    (omega arith, omega arith, sym (below-none (λ g. leb (first s g) (last s g))))
-
 loop-again : tie.Need-loop-again Inv-loop μ-loop
-loop-again c =
-    let l = c .before .loop in
-    let s = c .before .before .before .before .args .s in
-    (omega arith, l .inv .1, rw (below-next (l .g) (λ g. leb (first s g) (last s g)), ← l .inv .2))
+loop-again c = let l = c .before .loop in (l .inv .0, tested-next _ _ (l .ok) _ (l .g) (l .inv .1) (omega arith) refl)
 
 returns : tie.Need-returns Inv-loop μ-loop
-returns c =
-    let l = c .before .loop in
-    let e : l .g ≡ c .before .before .before .before .args .n = omega arith in
-    rw e at (l .inv .2)
+returns c = let l = c .before .loop in tested-all _ _ (l .ok) (l .g) (l .inv .1) (omega arith)
 
 pub windows-filled-spec : {M : Type 1} → statement M
 windows-filled-spec =
@@ -40,12 +28,7 @@ windows-filled-spec =
     (tie.spec
     Inv-loop
     μ-loop
-    loop-holds
-    (λ c. search needs)
-    (λ c. search needs)
-    (λ c. search needs)
-    (λ c. search needs)
-    (λ c. search needs)
-    (λ c. search needs)
+    (λ c. (omega arith, tested-none _ _))
+    (λ c. search needs) (λ c. search needs) (λ c. search needs) (λ c. search needs) (λ c. search needs) (λ c. search needs)
     loop-again
     returns)

@@ -5,12 +5,13 @@ use mathlib.Core.Path.{refl, sym, _∙_}
 use mathlib.Core.Bool.{true, false}
 use borrow.Author.Tests.{leb-true, not-true, not-false}
 use Rattle.laws.proofs.Tests.{both}
+use Rattle.rules.specs.Sizes.{maxRecords}
 use Rattle.rules.specs.Configuration.{good}
 use Rattle.rules.specs.State.{configOf}
 use Rattle.rules.specs.Guests.{own}
 use Rattle.rules.specs.Sound.{attachmentGood, faultGood, faultPlaceGood}
 use Rattle.soundness.specs.Pieces.{deviceOf}
-use Rattle.soundness.proofs.Verdict.{refused, either-refused, both-passed, granted, frame-refused, in-frame, frame-guests, frame-endpoints, frame-places, decided}
+use Rattle.soundness.proofs.Verdict.{refused, places-refused, granted, frame-refused, in-frame, frame-guests, frame-endpoints, frame-places, decided}
 use Rattle.soundness.proofs.is_sound.Statement.{statement}
 use Rattle.soundness.proofs.is_sound.Tie as tie
 
@@ -18,44 +19,33 @@ returns : tie.Need-returns
 returns c = sym (frame-refused _ (sym (c .before .frame-good .ensures) ∙ not-true _ (c .if1 .taken)))
 
 returns-2 : tie.Need-returns-2
-returns-2 c = sym (refused _ 12 (sym (c .before .unused-zero .ensures) ∙ not-true _ (c .if2 .taken)))
+unfolding configOf attachmentGood
+returns-2 c =
+    let e1 = c .before .before in
+    let k = sym (e1 .before .frame-good .ensures) ∙ not-false _ (e1 .if1 .left) in
+    let listed = granted _ _ false (frame-guests _ _ _ _ _ _ k) (c .before .places-good .ensures) (not-true _ (c .if2 .taken)) in
+    sym (places-refused _ (granted _ _ false (frame-endpoints _ _ _ _ _ _ k) refl listed))
 
 returns-3 : tie.Need-returns-3
-unfolding configOf attachmentGood
+unfolding configOf own faultGood faultPlaceGood
 returns-3 c =
     let e1 = c .before .before .before .before in
     let k = sym (e1 .before .frame-good .ensures) ∙ not-false _ (e1 .if1 .left) in
-    sym (refused _ 9 (granted _ _ false (frame-endpoints _ _ _ _ _ _ k) (c .before .attachments-good .ensures) (not-true _ (c .if3 .taken))))
+    sym (refused _ 13 (granted _ _ false (frame-endpoints _ _ _ _ _ _ k) (c .before .faults-good .ensures) (not-true _ (c .if3 .taken))))
 
 returns-4 : tie.Need-returns-4
-unfolding configOf
-returns-4 c =
-    let e1 = c .before .before .before .before .before .before in
+returns-4 c = sym (refused _ 5 (sym (c .before .zero-from .ensures) ∙ not-true _ (c .if4 .taken)))
+
+mul-zero-from : tie.Need-mul-zero-from
+mul-zero-from c =
+    let e1 = c .before .before .before .before in
     let k = sym (e1 .before .frame-good .ensures) ∙ not-false _ (e1 .if1 .left) in
-    sym (either-refused _ 10 11 (granted _ _ false (frame-guests _ _ _ _ _ _ k) (c .before .counts-good .ensures) (not-true _ (c .if4 .taken))))
+    record { fits = omega (arith, leb-true (e1 .before .before .before .args .live) maxRecords (in-frame _ _ _ _ _ _ k .1 .0)) }
 
 returns-5 : tie.Need-returns-5
-unfolding configOf own faultGood faultPlaceGood
-returns-5 c =
-    let e1 = c .before .before .before .before .before .before .before .before in
-    let k = sym (e1 .before .frame-good .ensures) ∙ not-false _ (e1 .if1 .left) in
-    sym (refused _ 13 (granted _ _ false (frame-endpoints _ _ _ _ _ _ k) (c .before .faults-good .ensures) (not-true _ (c .if5 .taken))))
-
-returns-6 : tie.Need-returns-6
-returns-6 c = sym (refused _ 5 (sym (c .before .zero-u64 .ensures) ∙ not-true _ (c .if6 .taken)))
-
-mul-zero-u64 : tie.Need-mul-zero-u64
-mul-zero-u64 c =
-    let e1 = c .before .before .before .before .before .before .before .before in
-    let k = sym (e1 .before .frame-good .ensures) ∙ not-false _ (e1 .if1 .left) in
-    record { fits = omega (arith, leb-true (e1 .before .before .before .args .live) 256 (in-frame _ _ _ _ _ _ k .1 .0)) }
-
-returns-7 : tie.Need-returns-7
 unfolding configOf good attachmentGood own faultGood faultPlaceGood
-returns-7 c =
-    let e6 = c .before in
-    let e5 = e6 .before .before in
-    let e4 = e5 .before .before in
+returns-5 c =
+    let e4 = c .before in
     let e3 = e4 .before .before in
     let e2 = e3 .before .before in
     let e1 = e2 .before .before in
@@ -65,7 +55,7 @@ returns-7 c =
     (a .addresses .now) (a .t .now) in
     let k = sym (e1 .before .frame-good .ensures) ∙ not-false _ (e1 .if1 .left) in
     let f = in-frame _ _ _ _ _ _ k in
-    let counts = both-passed d 10 11 (granted _ _ true (frame-guests _ _ _ _ _ _ k) (e4 .before .counts-good .ensures) (not-false _ (e4 .if4 .left))) in
+    let listed = granted _ _ true (frame-guests _ _ _ _ _ _ k) (e2 .before .places-good .ensures) (not-false _ (e2 .if2 .left)) in
     sym
     (granted _ _ (c .records-good .result) (frame-places _ _ _ _ _ _ k) (c .records-good .ensures) refl)
     ∙ sym
@@ -74,12 +64,9 @@ returns-7 c =
     (both _ _ (f .1 .1 .1 .0) (f .1 .1 .1 .1 .0))
     (f .1 .1 .0)
     (f .1 .0)
-    (sym (e6 .before .zero-u64 .ensures) ∙ not-false _ (e6 .if6 .left))
-    (granted _ _ true (frame-endpoints _ _ _ _ _ _ k) (e3 .before .attachments-good .ensures) (not-false _ (e3 .if3 .left)))
-    (counts .0)
-    (counts .1)
-    (sym (e2 .before .unused-zero .ensures) ∙ not-false _ (e2 .if2 .left))
-    (granted _ _ true (frame-endpoints _ _ _ _ _ _ k) (e5 .before .faults-good .ensures) (not-false _ (e5 .if5 .left))))
+    (sym (e4 .before .zero-from .ensures) ∙ not-false _ (e4 .if4 .left))
+    (granted _ _ true (frame-endpoints _ _ _ _ _ _ k) refl listed)
+    (granted _ _ true (frame-endpoints _ _ _ _ _ _ k) (e3 .before .faults-good .ensures) (not-false _ (e3 .if3 .left))))
 
 pub is-sound-spec : {M : Type 1} → statement M
 is-sound-spec =
@@ -91,12 +78,8 @@ is-sound-spec =
     returns-2
     (λ c κs. tt)
     returns-3
+    mul-zero-from
     (λ c κs. tt)
     returns-4
     (λ c κs. tt)
-    returns-5
-    mul-zero-u64
-    (λ c κs. tt)
-    returns-6
-    (λ c κs. tt)
-    returns-7)
+    returns-5)

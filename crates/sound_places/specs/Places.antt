@@ -1,0 +1,56 @@
+-- The places of guests and of endpoints in a state, each in use or zero.
+use Prim.Native.Nat.{ℕ}
+use mathlib.Core.Bool.{Bool, not, _&&_, _||_}
+use mathlib.Core.List.{List, [], _∷_}
+use lib.Dec.{leb, ltb, eqb}
+use lib.ListN.{getD}
+use Rattle.laws.specs.Lists.{every?, below}
+use Rattle.rules.specs.Sizes.{maxFaults, maxLost}
+use Rattle.rules.specs.declared.Settings.{Settings}
+use Rattle.rules.specs.declared.DomainRange.{DomainRange}
+use Rattle.rules.specs.declared.State.{State}
+use Rattle.rules.specs.Configuration.{Config, share, first, last}
+use Rattle.rules.specs.State.{configOf}
+use Rattle.rules.specs.Sound.{attachmentGood, unusedTests}
+use Rattle.state.specs.Pieces.{stateWith}
+
+-- a guest's numbers: in use, with log count and lost count within their limits, or zero
+unfoldable pub guestGood : Bool → ℕ → ℕ → ℕ → ℕ → ℕ → Bool
+guestGood used share first last count lost =
+    (used && (leb count maxFaults && leb lost maxLost))
+    || (not used && every? (eqb share 0 ∷ eqb first 0 ∷ eqb last 0 ∷ eqb count 0 ∷ eqb lost 0 ∷ []))
+
+abbrev pub guestPlace : Settings → List ℕ → List ℕ → ℕ → Bool
+guestPlace s logged lost g = guestGood (ltb g (s .guests)) (share s g) (first s g) (last s g) (getD logged g 0) (getD lost g 0)
+
+-- a domain range alone: what the test of an attachment looks at
+abbrev pub rangeAlone : DomainRange → Config
+rangeAlone range =
+    record {
+      settings = record { guests = 0; shares = []; firsts = []; lasts = []; mask = 0; input = record { start = 0; end = 0 }; domains = range };
+      endpoints = [];
+      owners = [];
+    }
+
+-- an endpoint's numbers: in use, with a good attachment, or zero
+unfoldable pub endpointGood : DomainRange → Bool → ℕ → ℕ → ℕ → ℕ → Bool
+endpointGood range used endpoint owner flag d =
+    (used && attachmentGood (rangeAlone range) flag d) || (not used && every? (eqb endpoint 0 ∷ eqb owner 0 ∷ eqb flag 0 ∷ eqb d 0 ∷ []))
+
+abbrev pub endpointPlace : DomainRange → ℕ → List ℕ → List ℕ → List ℕ → List ℕ → ℕ → Bool
+endpointPlace range n endpoints owners attached domains i =
+    endpointGood range (ltb i n) (getD endpoints i 0) (getD owners i 0) (getD attached i 0) (getD domains i 0)
+
+-- the tests of soundness that look at these places, in their order
+abbrev pub placeTests : State → List Bool
+placeTests s =
+    below (s .listed) (λ i. attachmentGood (configOf s) (getD (s .attached) i 0) (getD (s .domains) i 0))
+    ∷ below (s .settings .guests) (λ g. leb (getD (s .logged) g 0) maxFaults)
+    ∷ below (s .settings .guests) (λ g. leb (getD (s .lost) g 0) maxLost)
+    ∷ every? (unusedTests s)
+    ∷ []
+
+-- a state of these places alone
+abbrev pub placesAlone : Settings → ℕ → List ℕ → List ℕ → List ℕ → List ℕ → List ℕ → List ℕ → State
+placesAlone settings listed endpoints owners attached domains logged lost =
+    stateWith settings listed 0 endpoints owners attached domains logged lost [] [] [] []
