@@ -1,62 +1,81 @@
 -- Laws of a log whose oldest faults go.
-use Prim.Native.Nat.{ℕ, _+_, _-_, _/_, _%_, _≤_, _<_, min}
+use Prim.Native.Nat.{ℕ, _+_, _*_, _-_, _/_, _%_, _≤_, _<_, min}
 use mathlib.Core.Path.{_≡_, refl, sym, ap}
-use mathlib.Core.Bool.{Bool, true, false, cond}
+use mathlib.Core.Bool.{Bool, true, false, _||_}
 use mathlib.Core.List.{List}
-use native.Mathlib.Nat.{min-eq-left, min-eq-right}
+use mathlib.Core.Logic.{_≢_}
+use native.Mathlib.Nat.{sub-zero}
 use native.Mathlib.Omega.{arith}
-use lib.Dec.{ltb, eqb}
-use lib.ListN.{length, getD, set, List·getD-eq-default}
-use borrow.Author.Tests.{ltb-true, ltb-false, lt-ltb, le-ltb, ne-eqb}
-use Rattle.laws.proofs.Tables.{tab-is, tab-same}
+use lib.Dec.{ltb, leb, eqb}
+use lib.ListN.{length, getD, set}
+use lib.Seq.{set-out, set-getD}
+use borrow.Author.Tests.{ltb-true, ltb-false, leb-false, eqb-true, eqb-false, lt-ltb, le-ltb, lt-leb, eq-eqb, ne-eqb}
+use Rattle.laws.proofs.Tables.{tab-is}
+use Rattle.laws.proofs.Tests.{nor}
+use Rattle.rules.specs.Sizes.{maxGuests, maxFaults, faultPlaces}
 use Rattle.dropping.specs.Changes.{shifted, shiftedAll}
-use Rattle.dropping.specs.Places.{cameFrom}
-use Rattle.state.proofs.Rewriting.{Written, written-store}
+use Rattle.state.proofs.Rewriting.{Written, written-from, written-store, written-to}
 
-module _ (g k : ℕ) (l : List ℕ) (e : length l ≡ 64) where
-  -- what stands at a place is what stood where it came from, zero where that is past the end
-  pub shifted-from : (i : ℕ) → shifted g k l i ≡ getD l (cameFrom g k i) 0
-  unfolding shifted cameFrom
-  shifted-from i = go (eqb (i / 16) g) (ltb (i % 16 + k) 16)
-    where
-      past : getD l 64 0 ≡ 0
-      past = List·getD-eq-default l 0 (omega arith)
-
-      go : (a b : Bool) → cond a (cond b (getD l (i + k) 0) 0) (getD l i 0) ≡ getD l (cond a (cond b (i + k) 64) i) 0
-      go true true = refl
-      go true false = sym past
-      go false b = refl
-
-  -- one turn of the loop that shifts
-  module _ (i : ℕ) (h : i < 64) (out : List ℕ) (w : Written (shifted g k l) l i out) (from : ℕ) (f : from ≡ cameFrom g k i) where
-    pub shift-in : Written (shifted g k l) l (i + 1) (set out i (getD l from 0))
-    shift-in = written-store (shifted g k l) l i out (getD l from 0) w (omega arith) (rw (shifted-from i, f))
-
-    pub shift-out : 64 ≤ from → Written (shifted g k l) l (i + 1) (set out i 0)
-    shift-out o = written-store (shifted g k l) l i out 0 w (omega arith) (rw (shifted-from i, ← f) (sym (List·getD-eq-default l 0 (omega arith))))
-
-  -- a guest that has no places has no faults to lose
-  pub shifted-none : 4 ≤ g → shiftedAll g k l ≡ l
-  unfolding shifted
-  shifted-none h = tab-is 64 (shifted g k l) l 0 e (λ i j. rw (ne-eqb (i / 16) g (λ q. omega arith)))
-
-  -- where none go, all stay
-  pub shifted-zero : k ≡ 0 → shiftedAll g k l ≡ l
-  unfolding shifted
-  shifted-zero z = tab-is 64 (shifted g k l) l 0 e (λ i j. go i (eqb (i / 16) g))
-    where
-      go : (i : ℕ) (b : Bool) → cond b (cond (ltb (i % 16 + k) 16) (getD l (i + k) 0) 0) (getD l i 0) ≡ getD l i 0
-      go i true = let q : i + k ≡ i = omega arith in rw (lt-ltb (i % 16 + k) 16 (omega arith), q)
-      go i false = refl
-
--- all of a guest's sixteen places are gone at sixteen
-pub shifted-cap : (g k : ℕ) (l : List ℕ) → shiftedAll g (min k 16) l ≡ shiftedAll g k l
+-- what stands at another guest's place stays
+shifted-other : (g k : ℕ) (l : List ℕ) (i : ℕ) → i / maxFaults ≢ g → getD l i 0 ≡ shifted g k l i
 unfolding shifted
-shifted-cap g k l = tab-same 64 (shifted g (min k 16) l) (shifted g k l) (λ i j. go i (ltb k 16) refl)
-  where
-    go : (i : ℕ) (b : Bool) → ltb k 16 ≡ b → shifted g (min k 16) l i ≡ shifted g k l i
-    go i true h = ap (λ (m : ℕ). shifted g m l i) (min-eq-left (omega (arith, ltb-true k 16 h)))
-    go i false h = rw (min-eq-right (ltb-false k 16 h), le-ltb (i % 16 + 16) 16 (omega arith), le-ltb (i % 16 + k) 16 (omega (arith, ltb-false k 16 h)))
+shifted-other g k l i n = rw (ne-eqb (i / maxFaults) g n)
+
+-- of one of the fault records' arrays, l, the places below i are as they are when guest g's k oldest faults go
+pub record Shifted (g k i : ℕ) (l out : List ℕ) : Type 0 where
+  pub size : length l ≡ faultPlaces
+  pub part : Written (shifted g k l) l i out
+
+-- the loop that shifts begins at the guest's first place
+pub shift-first : (g k : ℕ) (l : List ℕ) → length l ≡ faultPlaces → Shifted g k (maxFaults * g) l l
+shift-first g k l e = record { size = e; part = written-from (shifted g k l) l (maxFaults * g) (λ j h. shifted-other g k l j (λ q. omega arith)) }
+
+-- a turn of it: what stands k places on comes, or zero where that is past the guest's places
+module _ (g k i : ℕ) (there : g < maxGuests) (from : maxFaults * g ≤ i) (to : i < maxFaults * g + maxFaults) where
+  shift-to : (l out : List ℕ) (v : ℕ) → v ≡ shifted g k l i → Shifted g k i l out → Shifted g k (i + 1) l (set out i v)
+  shift-to l out v e w = record { size = w .size; part = written-store (shifted g k l) l i out v (w .part) (omega (arith, w .size)) e }
+
+  own : eqb (i / maxFaults) g ≡ true
+  own = eq-eqb (i / maxFaults) g (omega arith)
+
+  pub shift-in : k < maxFaults * g + maxFaults - i → (l out : List ℕ) → Shifted g k i l out → Shifted g k (i + 1) l (set out i (getD out (i + k) 0))
+  unfolding shifted
+  shift-in h l out w =
+      shift-to l out (getD out (i + k) 0) (rw (own, lt-ltb (i % maxFaults + k) maxFaults (omega arith)) (w .part .old (i + k) (omega arith))) w
+
+  pub shift-out : maxFaults * g + maxFaults - i ≤ k → (l out : List ℕ) → Shifted g k i l out → Shifted g k (i + 1) l (set out i 0)
+  unfolding shifted
+  shift-out h l out w = shift-to l out 0 (rw (own, le-ltb (i % maxFaults + k) maxFaults (omega arith))) w
+
+-- it ends past the guest's last place
+pub shift-last : (g k i : ℕ) → maxFaults * g + maxFaults ≤ i → (l out : List ℕ) → Shifted g k i l out → out ≡ shiftedAll g k l
+shift-last g k i h l out w = written-to (shifted g k l) l faultPlaces i out (w .size) (λ j m n. shifted-other g k l j (λ q. omega arith)) (w .part)
+
+-- where there is no such guest, or none of its faults are to go, nothing changes
+module _ (g k : ℕ) (none : (leb maxGuests g || eqb k 0) ≡ true) where
+  none-of : g < maxGuests → k ≡ 0
+  none-of h = eqb-true k 0 (rw (lt-leb maxGuests g h) at none)
+
+  pub none-shifted : (l : List ℕ) → length l ≡ faultPlaces → shiftedAll g k l ≡ l
+  unfolding shifted
+  none-shifted l e = tab-is faultPlaces (shifted g k l) l 0 e (λ i j. go i j (eqb (i / maxFaults) g) refl)
+    where
+      go : (i : ℕ) → i < faultPlaces → (b : Bool) → eqb (i / maxFaults) g ≡ b → shifted g k l i ≡ getD l i 0
+      go i j false t = sym (shifted-other g k l i (eqb-false (i / maxFaults) g t))
+      go i j true t =
+          let z : k ≡ 0 = none-of (omega (arith, eqb-true (i / maxFaults) g t)) in
+          rw (t, lt-ltb (i % maxFaults + k) maxFaults (omega arith)) (ap (λ m. getD l m 0) (omega arith))
+
+  pub none-counted : (l : List ℕ) → length l ≡ maxGuests → set l g (getD l g 0 - k) ≡ l
+  none-counted l e = go (ltb g maxGuests) refl
+    where
+      go : (b : Bool) → ltb g maxGuests ≡ b → set l g (getD l g 0 - k) ≡ l
+      go true t = rw (none-of (ltb-true g maxGuests t), sub-zero) (set-getD l g 0)
+      go false t = set-out l g (getD l g 0 - k) (omega (arith, ltb-false g maxGuests t))
+
+-- else the guest has places
+pub some-guest : (g : ℕ) (b : Bool) → (leb maxGuests g || b) ≡ false → g < maxGuests
+some-guest g b h = leb-false maxGuests g (nor (leb maxGuests g) b h .0)
 
 -- no more goes than there is
 pub minus-least : (n k : ℕ) → n - min n k ≡ n - k

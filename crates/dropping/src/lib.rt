@@ -5,7 +5,6 @@ ghost use mathlib.Core.Path.{_≡_};
 ghost use Rattle.dropping.specs.Changes.{faultsDropped};
 use rules::Guest;
 use rules::State;
-use rules::sizes::MAX_FAULTS;
 use rules::sizes::MAX_GUESTS;
 use shifting::shift_faults;
 use state::least;
@@ -15,15 +14,14 @@ pub fn drop_faults(s: State, g: Guest, k: usize) -> State
     ensures { λ r. ⌜ r ≡ faultsDropped s (g .0) k ⌝ }
 {
     let guest = g.0 as usize;
-    if guest >= MAX_GUESTS {
-        return s;
-    }
-    if k == 0 {
+    if (guest >= MAX_GUESTS) | (k == 0) {
         // Nothing goes.
         return s;
     }
-    let n = s.logged[guest];
-    let mut next = shift_faults(s, guest, least(k, MAX_FAULTS));
-    next.logged[guest] = n - least(n, k);
+    let mut logged = s.logged;
+    let n = logged[guest];
+    logged[guest] = n - least(n, k);
+    let mut next = shift_faults(s, guest, k);
+    next.logged = logged;
     next
 }

@@ -1,8 +1,10 @@
--- Dropping a guest's sixteen faults leaves its count at none; past the last guest no array has the place.
-use borrow.Author.Needs.{needs, length-unmapped}
-use Prim.Native.Nat.{ℕ, _-_}
+-- Dropping all of a guest's faults leaves its count at none; past the last guest no array has the place.
+use borrow.Author.Needs.{needs}
+use Prim.Native.Nat.{_-_}
 use lib.ListN.{getD}
 use lib.Seq.{set-out, set-set}
+use Rattle.rules.specs.Sizes.{maxFaults}
+use Rattle.state.proofs.Lengths.{sized}
 use Rattle.state.proofs.Offsets.{times-four, times-eight, guest-below}
 use Rattle.dropping.specs.Changes.{faultsDropped}
 use Rattle.resets.specs.Changes.{guestCleared}
@@ -13,22 +15,21 @@ returns : tie.Need-returns
 unfolding guestCleared faultsDropped
 returns c =
     let a = c .before .before .before .before .args in
-    rw (c .before .detach-all .ensures, c .before .before .drop-faults .ensures, set-set (a .s .logged) (a .g .0) (getD (a .s .logged) (a .g .0) 0 - 16) 0)
+    rw (c .before .detach-all .ensures, c .before .before .drop-faults .ensures, set-set (a .s .logged) (a .g .0) (getD (a .s .logged) (a .g .0) 0 - maxFaults) 0)
 
 returns-2 : tie.Need-returns-2
 unfolding guestCleared faultsDropped
 returns-2 c =
-    let a = c .before .before .before .before .args in
-    let s = a .s in
-    let w = c .before .before .before .before .good .0 .1 .1 .1 .1 .1 .1 .1 .1 .1 in
-    let n = length-unmapped ℕ (s .logged) 4 (w .0 .1 .0 .1) in
-    let m = length-unmapped ℕ (s .lost) 4 (w .1 .0 .1 .0 .1) in
+    let b = c .before .before .before .before in
+    let s = b .args .s in
+    let g = b .args .g .0 in
+    let n = sized s _ (b .good .0) in
     rw (
       c .before .detach-all .ensures,
       c .before .before .drop-faults .ensures,
-      set-out (s .logged) (a .g .0) (getD (s .logged) (a .g .0) 0 - 16) (rw n (c .if1 .left)),
-      set-out (s .logged) (a .g .0) 0 (rw n (c .if1 .left)),
-      set-out (s .lost) (a .g .0) 0 (rw m (c .if1 .left)),
+      set-out (s .logged) g (getD (s .logged) g 0 - maxFaults) (rw (n .logged) (c .if1 .left)),
+      set-out (s .logged) g 0 (rw (n .logged) (c .if1 .left)),
+      set-out (s .lost) g 0 (rw (n .lost) (c .if1 .left)),
     )
 
 pub clear-guest-spec : {M : Type 1} → statement M

@@ -1,16 +1,71 @@
+-- In each of the four arrays the guest's places below i are shifted, and the rest are as they were.
+use native.Mathlib.Omega.{arith}
+use borrow.Author.Needs.{needs}
+use Prim.Native.Nat.{_+_, _*_, _-_, _≤_}
+use mathlib.Core.Logic.{⊎-elim}
+use Rattle.rules.specs.Sizes.{maxFaults}
+use Rattle.state.proofs.Lengths.{sized}
+use Rattle.dropping.proofs.Oldest.{Shifted, shift-first, shift-in, shift-out, shift-last}
 use Rattle.dropping.proofs.shifting.shift_faults.Statement.{statement}
 use Rattle.dropping.proofs.shifting.shift_faults.Tie as tie
 
-returns : tie.Need-returns
+abbrev Inv-loop : tie.InvT-loop
+Inv-loop s g k reasons₀ flags₀ sources₀ addresses₀ first end i₀ reasons flags sources addresses i =
+    (maxFaults * g ≤ i) × (i ≤ maxFaults * g + maxFaults)
+    × (Shifted g k i reasons₀ reasons × Shifted g k i flags₀ flags × Shifted g k i sources₀ sources × Shifted g k i addresses₀ addresses)
+
+abbrev μ-loop : tie.MeasureT-loop
+μ-loop s g k reasons₀ flags₀ sources₀ addresses₀ first end i₀ reasons flags sources addresses i = maxFaults * g + maxFaults - i
+
+loop-holds : tie.Need-loop-holds Inv-loop μ-loop
+loop-holds c =
+    let b = c .before .before .before .before in
+    let n = sized (b .args .s) _ (b .good .0) in
+    let t = shift-first (b .args .g) (b .args .k) in
+    (omega arith, omega arith, (t _ (n .reasons), t _ (n .flags), t _ (n .sources), t _ (n .addresses)))
+
+loop-again : tie.Need-loop-again Inv-loop μ-loop
+loop-again c =
+    let l = c .before .before in
+    let b = l .before .before .before .before .before in
+    let v = l .loop .inv .2 in (
+      omega arith,
+      omega arith,
+      ⊎-elim
+          (λ w.
+          let t = shift-in (b .args .g) (b .args .k) (l .loop .i) (b .pre) (l .loop .inv .0) (omega arith) (omega (arith, w .0)) in
+          (rw (w .1) (t _ _ (v .0)), rw (w .2) (t _ _ (v .1)), rw (w .3) (t _ _ (v .2)), rw (w .4) (t _ _ (v .3))))
+          (λ w.
+          let t = shift-out (b .args .g) (b .args .k) (l .loop .i) (b .pre) (l .loop .inv .0) (omega arith) (omega (arith, w .0)) in
+          (rw (w .1) (t _ _ (v .0)), rw (w .2) (t _ _ (v .1)), rw (w .3) (t _ _ (v .2)), rw (w .4) (t _ _ (v .3))))
+          (c .if1 .came),
+    )
+
+returns : tie.Need-returns Inv-loop μ-loop
 returns c =
-    rw (c .shifted-u64 .ensures, c .before .shifted-u322 .ensures, c .before .before .shifted-u32 .ensures, c .before .before .before .shifted-u8 .ensures)
+    let l = c .before in
+    let a = l .before .before .before .before .before .args in
+    let v = l .loop .inv .2 in
+    let t = shift-last (a .g) (a .k) (l .loop .i) (omega arith) in
+    rw (t _ _ (v .0), t _ _ (v .1), t _ _ (v .2), t _ _ (v .3))
 
 pub shift-faults-spec : {M : Type 1} → statement M
 shift-faults-spec =
     tie.close
     (tie.spec
-    (λ c κs. c .before .before .before .before .pre)
-    (λ c κs. c .before .before .before .before .before .pre)
-    (λ c κs. c .before .before .before .before .before .before .pre)
-    (λ c κs. c .before .before .before .before .before .before .before .pre)
+    Inv-loop
+    μ-loop
+    (λ c. search needs) (λ c. search needs)
+    loop-holds
+    (λ c. search needs) (λ c. search needs)
+    (λ c. search needs) (λ c. search needs)
+    (λ c. search needs) (λ c. search needs) (λ c. search needs) (λ c. search needs)
+    (λ c. search needs) (λ c. search needs) (λ c. search needs) (λ c. search needs)
+    (λ c. search needs) (λ c. search needs) (λ c. search needs) (λ c. search needs)
+    (λ c. search needs)
+    (λ c. search needs) (λ c. search needs)
+    (λ c. search needs) (λ c. search needs)
+    (λ c. search needs) (λ c. search needs)
+    (λ c. search needs) (λ c. search needs)
+    loop-again
     returns)
