@@ -5,6 +5,7 @@ use mathlib.Core.List.{List, [], _∷_}
 use mathlib.Core.Bool.{Bool, _&&_, and-assoc, and-true}
 use native.Mathlib.Nat.{zero-min, min-zero, suc-min-suc}
 use lib.ListN.{length, getD, take, drop, drop-of-length-le}
+use lib.Seq.{length-take-le, getD-take}
 use Rattle.laws.specs.Lists.{all?, pairwise}
 use Rattle.laws.proofs.Turns.{drop-next}
 
@@ -14,16 +15,23 @@ take-least zero xs = rw (zero-min (length xs))
 take-least (suc n) [] = rw (min-zero (suc n))
 take-least (suc n) (x ∷ xs) = rw (suc-min-suc n (length xs)) (ap (λ (l : List _). x ∷ l) (take-least n xs))
 
--- over a list, of which what is left to look at is a suffix
-module _ {A : Type 0} (z : A) (xs : List A) (i : ℕ) (ok : Bool) where
-  pub all-turn : (q : A → Bool) → i < length xs → (ok && all? q (drop i xs)) ≡ ((ok && q (getD xs i z)) && all? q (drop (i + 1) xs))
-  all-turn q h = rw (drop-next xs i z h) (sym (and-assoc ok _ _))
+-- over the first n elements of a list, of which what is left to look at is a suffix
+module _ (xs : List ℕ) (n : ℕ) (fits : n ≤ length xs) (i : ℕ) (ok : Bool) where
+  next : i < n → drop i (take n xs) ≡ getD xs i 0 ∷ drop (i + 1) (take n xs)
+  next h = rw (← getD-take n xs i 0 h) (drop-next (take n xs) i 0 (rw (length-take-le n xs fits) h))
 
-  pub all-left : (q : A → Bool) → length xs ≤ i → (ok && all? q (drop i xs)) ≡ ok
-  all-left q h = rw (drop-of-length-le xs {i = i} h) (and-true ok)
+  none : n ≤ i → drop i (take n xs) ≡ []
+  none h = drop-of-length-le (take n xs) {i = i} (rw (length-take-le n xs fits) h)
 
-  pub pairs-turn : (q : A → A → Bool) → i < length xs → (ok && pairwise q (drop i xs)) ≡ ((ok && all? (q (getD xs i z)) (drop (i + 1) xs)) && pairwise q (drop (i + 1) xs))
-  pairs-turn q h = rw (drop-next xs i z h) (sym (and-assoc ok _ _))
+  pub all-turn : (q : ℕ → Bool) → i < n → (ok && all? q (drop i (take n xs))) ≡ ((ok && q (getD xs i 0)) && all? q (drop (i + 1) (take n xs)))
+  all-turn q h = rw (next h) (sym (and-assoc ok _ _))
 
-  pub pairs-left : (q : A → A → Bool) → length xs ≤ i → (ok && pairwise q (drop i xs)) ≡ ok
-  pairs-left q h = rw (drop-of-length-le xs {i = i} h) (and-true ok)
+  pub all-left : (q : ℕ → Bool) → n ≤ i → (ok && all? q (drop i (take n xs))) ≡ ok
+  all-left q h = rw (none h) (and-true ok)
+
+  pub pairs-turn : (q : ℕ → ℕ → Bool) → i < n
+      → (ok && pairwise q (drop i (take n xs))) ≡ ((ok && all? (q (getD xs i 0)) (drop (i + 1) (take n xs))) && pairwise q (drop (i + 1) (take n xs)))
+  pairs-turn q h = rw (next h) (sym (and-assoc ok _ _))
+
+  pub pairs-left : (q : ℕ → ℕ → Bool) → n ≤ i → (ok && pairwise q (drop i (take n xs))) ≡ ok
+  pairs-left q h = rw (none h) (and-true ok)

@@ -5,8 +5,7 @@ use Prim.Native.Nat.{_≤_, _-_}
 use mathlib.Core.Path.{_≡_, refl, sym, _∙_}
 use mathlib.Core.Bool.{not, _&&_}
 use lib.Dec.{eqb}
-use lib.ListN.{length, take, drop, getD}
-use lib.Seq.{length-take-le, getD-take}
+use lib.ListN.{length, take, drop}
 use Rattle.laws.specs.Lists.{pairwise}
 use Rattle.endpoint_lists.proofs.Turns.{pairs-turn, pairs-left}
 use Rattle.endpoint_lists.proofs.all_differ.Statement.{statement}
@@ -26,21 +25,14 @@ loop-again : tie.Need-loop-again Inv-loop μ-loop
 loop-again c =
     let l = c .before .before .loop in
     let a = c .before .before .before .before .args in
-    let E = a .endpoints .now in
-    let X = take (a .n) E in
-    let e : length X ≡ a .n = length-take-le (a .n) E (omega arith) in
-    let g : getD X (l .i) 0 ≡ getD E (l .i) 0 = getD-take (a .n) E (l .i) 0 (omega arith) in
-    let t = pairs-turn 0 X (l .i) (l .ok) (λ a b. not (eqb a b)) (omega arith) in
-    (omega arith, l .inv .1, l .inv .2 ∙ rw (g, ← c .not-later .ensures) at t)
+    let t = pairs-turn (a .endpoints .now) (a .n) (l .inv .1) (l .i) (l .ok) (λ x y. not (eqb x y)) (omega arith) in
+    (omega arith, l .inv .1, l .inv .2 ∙ rw (← c .not-later .ensures) at t)
 
 returns : tie.Need-returns Inv-loop μ-loop
 returns c =
     let l = c .before .loop in
     let a = c .before .before .before .args in
-    let E = a .endpoints .now in
-    let X = take (a .n) E in
-    let e : length X ≡ a .n = length-take-le (a .n) E (omega arith) in
-    sym (l .inv .2 ∙ pairs-left 0 X (l .i) (l .ok) (λ a b. not (eqb a b)) (omega arith))
+    sym (l .inv .2 ∙ pairs-left (a .endpoints .now) (a .n) (l .inv .1) (l .i) (l .ok) (λ x y. not (eqb x y)) (omega arith))
 
 pub all-differ-spec : {M : Type 1} → statement M
 all-differ-spec =

@@ -1,3 +1,4 @@
+-- `endpoint_lists::distinct` meets its contract. Assumes nothing.
 use borrow.Author.Needs.{needs}
 use mathlib.Core.Path.{sym}
 use Rattle.endpoint_lists.proofs.distinct.Statement.{statement}

@@ -1,3 +1,4 @@
+-- `endpoint_lists::good_lists` meets its contract. Assumes nothing.
 use borrow.Author.Needs.{needs}
 use borrow.Author.Tests.{lt-leb, le-leb, eq-eqb, ne-eqb}
 use mathlib.Core.Path.{_≡_}
@@ -5,6 +6,7 @@ use mathlib.Core.Bool.{not, and-true}
 use lib.Dec.{eqb}
 use lib.ListN.{take, length-take}
 use Rattle.laws.specs.Lists.{pairwise}
+use Rattle.rules.specs.Sizes.{maxEndpoints}
 use Rattle.rules.specs.Configuration.{goodLists}
 use Rattle.endpoint_lists.proofs.Turns.{take-least}
 use Rattle.endpoint_lists.proofs.good_lists.Statement.{statement}
@@ -34,7 +36,7 @@ returns-2 c =
       ← b .before .least .ensures,
       ← b .least2 .ensures,
       eq-eqb (b .before .least .result) (b .least2 .result) (c .before .if1 .left),
-      lt-leb (b .before .least .result) 32 (c .if2 .taken),
+      lt-leb (b .before .least .result) maxEndpoints (c .if2 .taken),
     )
 
 returns-3 : tie.Need-returns-3
@@ -58,7 +60,7 @@ returns-3 c =
       ← b .before .least .ensures,
       ← b .least2 .ensures,
       eq-eqb m (b .least2 .result) (e .before .if1 .left),
-      le-leb m 32 (e .if2 .left),
+      le-leb m maxEndpoints (e .if2 .left),
       and-true (pairwise (λ x y. not (eqb x y)) (take (a .n) E)),
     )
 

@@ -6,7 +6,6 @@ use mathlib.Core.Path.{_≡_, refl, sym, _∙_}
 use mathlib.Core.Bool.{not, _&&_}
 use lib.Dec.{eqb}
 use lib.ListN.{length, take, drop, getD}
-use lib.Seq.{length-take-le, getD-take}
 use Rattle.laws.specs.Lists.{all?}
 use Rattle.endpoint_lists.proofs.Turns.{all-turn, all-left}
 use Rattle.endpoint_lists.proofs.not_later.Statement.{statement}
@@ -26,20 +25,13 @@ loop-again : tie.Need-loop-again Inv-loop μ-loop
 loop-again c =
     let l = c .before .before .loop in
     let a = c .before .before .before .before .args in
-    let E = a .endpoints .now in
-    let X = take (a .n) E in
-    let e : length X ≡ a .n = length-take-le (a .n) E (omega arith) in
-    let g : getD X (l .j) 0 ≡ getD E (l .j) 0 = getD-take (a .n) E (l .j) 0 (omega arith) in
-    (omega arith, l .inv .1, l .inv .2 ∙ rw g at (all-turn 0 X (l .j) (l .ok) (λ b. not (eqb (getD E (a .i) 0) b)) (omega arith)))
+    (omega arith, l .inv .1, l .inv .2 ∙ all-turn (a .endpoints .now) (a .n) (l .inv .1) (l .j) (l .ok) (λ b. not (eqb (getD (a .endpoints .now) (a .i) 0) b)) (omega arith))
 
 returns : tie.Need-returns Inv-loop μ-loop
 returns c =
     let l = c .before .loop in
     let a = c .before .before .before .args in
-    let E = a .endpoints .now in
-    let X = take (a .n) E in
-    let e : length X ≡ a .n = length-take-le (a .n) E (omega arith) in
-    sym (l .inv .2 ∙ all-left 0 X (l .j) (l .ok) (λ b. not (eqb (getD E (a .i) 0) b)) (omega arith))
+    sym (l .inv .2 ∙ all-left (a .endpoints .now) (a .n) (l .inv .1) (l .j) (l .ok) (λ b. not (eqb (getD (a .endpoints .now) (a .i) 0) b)) (omega arith))
 
 pub not-later-spec : {M : Type 1} → statement M
 not-later-spec =

@@ -5,8 +5,7 @@ use Prim.Native.Nat.{_≤_, _-_}
 use mathlib.Core.Path.{_≡_, refl, sym, _∙_}
 use mathlib.Core.Bool.{_&&_}
 use lib.Dec.{ltb}
-use lib.ListN.{length, take, drop, getD}
-use lib.Seq.{length-take-le, getD-take}
+use lib.ListN.{length, take, drop}
 use Rattle.laws.specs.Lists.{all?}
 use Rattle.endpoint_lists.proofs.Turns.{all-turn, all-left}
 use Rattle.endpoint_lists.proofs.owners_below.Statement.{statement}
@@ -29,18 +28,13 @@ loop-again : tie.Need-loop-again Inv-loop μ-loop
 loop-again c =
     let l = c .before .before .loop in
     let a = c .before .before .before .args in
-    let X = take (a .n) (a .owners .now) in
-    let e : length X ≡ a .n = length-take-le (a .n) (a .owners .now) (omega arith) in
-    let g : getD X (l .i) 0 ≡ getD (a .owners .now) (l .i) 0 = getD-take (a .n) (a .owners .now) (l .i) 0 (omega arith) in
-    (omega arith, l .inv .1, l .inv .2 ∙ rw g at (all-turn 0 X (l .i) (l .ok) (λ o. ltb o (a .guests)) (omega arith)))
+    (omega arith, l .inv .1, l .inv .2 ∙ all-turn (a .owners .now) (a .n) (l .inv .1) (l .i) (l .ok) (λ o. ltb o (a .guests)) (omega arith))
 
 returns : tie.Need-returns Inv-loop μ-loop
 returns c =
     let l = c .before .loop in
     let a = c .before .before .args in
-    let X = take (a .n) (a .owners .now) in
-    let e : length X ≡ a .n = length-take-le (a .n) (a .owners .now) (omega arith) in
-    sym (l .inv .2 ∙ all-left 0 X (l .i) (l .ok) (λ o. ltb o (a .guests)) (omega arith))
+    sym (l .inv .2 ∙ all-left (a .owners .now) (a .n) (l .inv .1) (l .i) (l .ok) (λ o. ltb o (a .guests)) (omega arith))
 
 pub owners-below-spec : {M : Type 1} → statement M
 owners-below-spec =
