@@ -3,8 +3,9 @@ use Prim.Native.Nat.{ℕ, _*_, _<_}
 use native.Mathlib.Omega.{arith}
 use mir.Syntax.{w64}
 use mir.Val.{Fits}
+use Rattle.rules.specs.Sizes.{maxGuests, faultPlaces}
 
-module _ (i : ℕ) (h : i < 64) where
+module _ (i : ℕ) (h : i < faultPlaces) where
   pub place-fits : Fits w64 i
   place-fits = record { fits = omega arith }
 
@@ -15,5 +16,5 @@ module _ (i : ℕ) (h : i < 64) where
   times-eight = record { fits = omega arith }
 
 -- a guest's place is among them
-pub guest-below : (g : ℕ) → g < 4 → g < 64
+pub guest-below : (g : ℕ) → g < maxGuests → g < faultPlaces
 guest-below g h = omega arith

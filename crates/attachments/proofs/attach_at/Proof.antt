@@ -1,10 +1,9 @@
 use native.Mathlib.Nat.{lt-of-lt-of-le}
-use Prim.Native.Nat.{ℕ, _≤_}
 use mathlib.Core.Path.{refl}
-use borrow.Author.Needs.{length-unmapped}
 use lib.Dec.{lit≤}
 use lib.Seq.{set-out}
 use Rattle.attachments.specs.Changes.{attachedAt}
+use Rattle.state.proofs.Lengths.{sized}
 use Rattle.state.proofs.Offsets.{times-four}
 use Rattle.attachments.proofs.attach_at.Statement.{statement}
 use Rattle.attachments.proofs.attach_at.Tie as tie
@@ -17,12 +16,10 @@ returns-2 : tie.Need-returns-2
 unfolding attachedAt
 returns-2 c =
     let a = c .before .args in
-    let w = c .before .good .0 .1 .1 .1 .1 .1 .1 in
-    let p = length-unmapped ℕ (a .s .attached) 32 (w .0 .1 .0 .1) in
-    let q = length-unmapped ℕ (a .s .domains) 32 (w .1 .0 .1 .0 .1) in
+    let n = sized (a .s) _ (c .before .good .0) in
     rw (
-      set-out (a .s .attached) (a .i) (a .flag) (rw p (c .if1 .left)),
-      set-out (a .s .domains) (a .i) (a .d .0) (rw q (c .if1 .left)),
+      set-out (a .s .attached) (a .i) (a .flag) (rw (n .attached) (c .if1 .left)),
+      set-out (a .s .domains) (a .i) (a .d .0) (rw (n .domains) (c .if1 .left)),
     )
 
 pub attach-at-spec : {M : Type 1} → statement M
