@@ -1,9 +1,10 @@
 -- What set-up shows at its returns, and one turn of each loop that fills the start state's arrays.
 use Prim.Native.Nat.{ℕ, zero, suc, _+_, _/_, _%_, _≤_, _<_}
 use mathlib.Core.Path.{_≡_, refl, sym, ap, _∙_}
-use mathlib.Core.Bool.{Bool, true, false, not, _&&_}
+use mathlib.Core.Bool.{Bool, true, false, cond, not, _&&_}
 use mathlib.Core.List.{List}
 use mathlib.Core.Option.{none}
+use lib.Dec.{ltb}
 use lib.ListN.{length, getD, set, take, replicate, List·getD-eq-default}
 use lib.Seq.{take-length}
 use borrow.Author.Tests.{lt-ltb, le-ltb, eq-eqb, ne-eqb}
@@ -16,33 +17,51 @@ use Rattle.rules.specs.Sizes.{maxGuests, maxEndpoints, maxFaults, faultPlaces, 
 use Rattle.rules.specs.Configuration.{goodSettings, goodLists, good}
 use Rattle.rules.specs.State.{Attachment, Log, noFault, noLog, flagOf, numberOf, trimmed, stateOf, start, zeroState}
 use Rattle.rules.specs.Device.{setUp}
-use Rattle.state.proofs.Rewriting.{Written, written-store, written-keep}
+use Rattle.state.proofs.Rewriting.{Written, written-store, written-keep, written-all}
 use Rattle.effects.specs.Flat.{device}
-use Rattle.effects.specs.Setting.{configured, keptOf}
+use Rattle.effects.specs.Setting.{configured}
 
 -- LOOPS
 
-module _ (n : ℕ) (l : List ℕ) (i : ℕ) (h : i < length l) (out : List ℕ) (w : Written (keptOf n l) l i out) where
-  pub kept-zero : n ≤ i → Written (keptOf n l) l (i + 1) (set out i 0)
-  kept-zero e = written-store (keptOf n l) l i out 0 w h (rw (le-ltb i n e))
+-- of an array with a place for each guest, what stands at place g with n guests in use
+abbrev pub keptOf : ℕ → List ℕ → ℕ → ℕ
+keptOf n l g = cond (ltb g n) (getD l g 0) 0
 
-  pub kept-same : i < n → Written (keptOf n l) l (i + 1) out
-  kept-same e = written-keep (keptOf n l) l i out w (rw (lt-ltb i n e))
+-- of such an array, the places from n to i are set to zero
+abbrev pub Kept : ℕ → List ℕ → ℕ → List ℕ → Type 0
+Kept n l i out = Written (keptOf n l) l i out
 
-module _ (l z : List ℕ) (i : ℕ) (h : i < length z) (out : List ℕ) (w : Written (λ j. getD l j 0) z i out) where
-  pub pad-in : Written (λ j. getD l j 0) z (i + 1) (set out i (getD l i 0))
-  pad-in = written-store (λ j. getD l j 0) z i out (getD l i 0) w h refl
+pub kept-start : (n : ℕ) (l : List ℕ) → Kept n l n l
+kept-start n l = record { long = refl; done = λ j h. rw (lt-ltb j n h); old = λ j h. refl }
 
-  pub pad-past : length l ≤ i → Written (λ j. getD l j 0) z (i + 1) (set out i 0)
-  pad-past e = written-store (λ j. getD l j 0) z i out 0 w h (sym (List·getD-eq-default l 0 e))
+module _ (n : ℕ) {l : List ℕ} {i : ℕ} {out : List ℕ} (w : Kept n l i out) where
+  pub kept-zero : n ≤ i → i < length l → Kept n l (i + 1) (set out i 0)
+  kept-zero e h = written-store (keptOf n l) l i out 0 w h (rw (le-ltb i n e))
 
--- THE START STATE
+  pub kept-all : length l ≡ maxGuests → maxGuests ≤ i → out ≡ tab maxGuests (keptOf n l)
+  kept-all e h = written-all (keptOf n l) l maxGuests i out e h w
 
 -- what a list of one value holds, at every place
 all-same : {A : Type 0} (n : ℕ) (z : A) (i : ℕ) → getD (replicate n z) i z ≡ z
 all-same zero z i = refl
 all-same (suc n) z zero = refl
 all-same (suc n) z (suc i) = all-same n z i
+
+-- of the places for endpoints, those below i hold what stands there in a list, zero where the list has ended
+abbrev pub Padded : List ℕ → ℕ → List ℕ → Type 0
+Padded l i out = Written (λ j. getD l j 0) (replicate maxEndpoints 0) i out
+
+module _ (l : List ℕ) {i : ℕ} {out : List ℕ} (w : Padded l i out) where
+  pub pad-in : i < maxEndpoints → Padded l (i + 1) (set out i (getD l i 0))
+  pad-in h = written-store (λ j. getD l j 0) (replicate maxEndpoints 0) i out (getD l i 0) w h refl
+
+  pub pad-past : length l ≤ i → Padded l (i + 1) out
+  pad-past h = written-keep (λ j. getD l j 0) (replicate maxEndpoints 0) i out w (all-same maxEndpoints 0 i ∙ sym (List·getD-eq-default l 0 h))
+
+  pub pad-all : maxEndpoints ≤ i → out ≡ pad maxEndpoints 0 l
+  pad-all h = written-all (λ j. getD l j 0) (replicate maxEndpoints 0) maxEndpoints i out refl h w
+
+-- THE START STATE
 
 zeros : (n : ℕ) (f : ℕ → ℕ) → ((i : ℕ) → f i ≡ 0) → tab n f ≡ replicate n 0
 zeros n f h = sym (replicate-is n 0 (tab n f) (length-tab n f) (λ i k. getD-tab n f i 0 k ∙ h i))
@@ -105,11 +124,11 @@ module _ (s : Settings) (es os : List ℕ) where
   good-both n a b e f = rw (e, f, take-length es) (ap (λ (l : List ℕ). goodSettings s && goodLists s es l) (ap (λ k. take k os) n ∙ take-length os))
 
   module _ (ws : List ℕ) where
-    pub set-up-length : (z : State) → (length ws ≡ 1280 → ⊥) → z ≡ zeroState → record { answer = Unsound; device = device z ws } ≡ setUp (configured s es os) ws
+    pub set-up-length : (z : State) → (length ws ≡ tableWords → ⊥) → z ≡ zeroState → record { answer = Unsound; device = device z ws } ≡ setUp (configured s es os) ws
     unfolding setUp
     set-up-length z n e = rw (ne-eqb (length ws) tableWords n, e)
 
-    module _ (n : length ws ≡ 1280) (b : Bool) (f : b ≡ good (configured s es os)) where
+    module _ (n : length ws ≡ tableWords) (b : Bool) (f : b ≡ good (configured s es os)) where
       pub set-up-bad : (z : State) → not b ≡ true → z ≡ zeroState → record { answer = BadConfiguration; device = device z ws } ≡ setUp (configured s es os) ws
       unfolding setUp
       set-up-bad z t e = rw (eq-eqb (length ws) tableWords n, sym f, t, e)

@@ -1,5 +1,5 @@
 -- Laws of the lines of a request and an access: each as the pieces that are put one after the other.
-use Prim.Native.Nat.{ℕ, _+_, _≤_}
+use Prim.Native.Nat.{ℕ, _+_}
 use mathlib.Core.Path.{_≡_}
 use mathlib.Core.List.{List, [], _∷_, _++_}
 use native.Mathlib.Omega.{arith}
@@ -7,30 +7,11 @@ use borrow.Author.Tests.{eq-eqb, ne-eqb}
 use lib.ListN.{getD}
 use Rattle.rules.specs.declared.Answer.{Answer}
 use Rattle.rules.specs.Answers.{number, usedLength, addressOf}
-use Rattle.rules.specs.declared.Answer.the-variants.{Done, Served, Through, Fetched, NoSuchGuest, Unsound, UnknownType, WrongLength, BadConfiguration, UnknownEndpoint, Unattached, Unmapped}
 use Rattle.printing.specs.Text.{newline, decimal, address}
 use Rattle.plain_lines.specs.Plain.{numberLine}
-use Rattle.printing.proofs.Numbers.{decimal-one, one-digit}
-use Rattle.plain_lines.proofs.Numbers.{number-text}
+use Rattle.printing.proofs.Numbers.{decimal-one}
+use Rattle.plain_lines.proofs.Numbers.{number-text, used-text}
 use Rattle.lines.specs.Lines.{requestLine, accessLine}
-
--- an answer's used length has one digit
-pub used-small : (a : Answer) → usedLength a ≤ 4
-used-small Done = omega arith
-used-small Served = omega arith
-used-small (Through x) = omega arith
-used-small (Fetched n) = omega arith
-used-small NoSuchGuest = omega arith
-used-small Unsound = omega arith
-used-small UnknownType = omega arith
-used-small WrongLength = omega arith
-used-small BadConfiguration = omega arith
-used-small UnknownEndpoint = omega arith
-used-small Unattached = omega arith
-used-small Unmapped = omega arith
-
-pub used-text : (a : Answer) → decimal (usedLength a) ≡ (48 + usedLength a) ∷ []
-used-text a = one-digit (usedLength a) (omega (arith, used-small a))
 
 -- the start of a request's line
 abbrev pub requestHead : ℕ → ℕ → List ℕ

@@ -1,11 +1,11 @@
 -- What the code's results tell of a turn.
 use Prim.Native.Nat.{ℕ, _+_, _<_, _≤_}
 use mathlib.Core.Path.{_≡_, refl, sym, _∙_}
-use mathlib.Core.Bool.{Bool, true, false}
+use mathlib.Core.Bool.{Bool, true, false, not, _&&_, and-false}
 use mathlib.Core.List.{List, []}
-use lib.Dec.{leb}
+use lib.Dec.{leb, ltb}
 use lib.ListN.{length}
-use borrow.Author.Tests.{le-leb, lt-leb}
+use borrow.Author.Tests.{le-leb, lt-leb, le-ltb, lt-ltb}
 use Rattle.rules.specs.State.{Device}
 use Rattle.rules.specs.Device.{Reply, SetUp}
 use Rattle.effects.specs.declared.Given.{Given}
@@ -35,11 +35,6 @@ module _ (b : Bool) (x : Turn) (r : Turned) (p : Player) (t out left : List ℕ)
   pub accepted : (words : List ℕ) → b ≡ true → Tells r words out left k x → Tells r words out left k (allowed b p t x)
   accepted words e h = rw e h
 
--- a record is worked that prints nothing
-pub tells-named : (r : Turned) (q : Player) (t s out : List ℕ) (k n : ℕ) → n ≡ sizeOf s → r ≡ turned q n 0 false → Tells r t out out k (done s q t [])
-tells-named r q t s out k n h e =
-    rw (e, h) (record { player = refl; words = refl; read = refl; printed = refl; bad = refl; lines = sym (placed-none k out) })
-
 -- a line that was put where there is room for it
 module _ (room k : ℕ) (line out : List ℕ) (h : k + room ≤ length out) where
   pub is-written : written room k line out ≡ placed k line out
@@ -59,6 +54,22 @@ pub tells-line :
     → r ≡ turned q n c false
     → Tells r t out left k (done s q t line)
 tells-line r q t s line out left k n c h l w e = rw (e, h, l) (record { player = refl; words = refl; read = refl; printed = refl; bad = refl; lines = w })
+
+-- a result tells of a record that names one more, where n are named so far, of at most `most`, and the player is then q
+abbrev pub NameTells : Player → ℕ → ℕ → List ℕ → Player → Turned → Type 0
+NameTells p n most s q r = (t out : List ℕ) (k : ℕ) → Tells r t out out k (allowed (not (p .started) && ltb n most) p t (done s q t []))
+
+module _ (p : Player) (n most : ℕ) (s : List ℕ) (q : Player) {r : Turned} where
+  pub named-late : p .started ≡ true → r ≡ turned p 0 0 true → NameTells p n most s q r
+  named-late h e t out k = refused (not (p .started) && ltb n most) (done s q t []) r p t out out k (rw h) e
+
+  pub named-past : most ≤ n → r ≡ turned p 0 0 true → NameTells p n most s q r
+  named-past h e t out k = refused (not (p .started) && ltb n most) (done s q t []) r p t out out k (rw (le-ltb n most h, and-false)) e
+
+  pub named-more : p .started ≡ false → n < most → (m : ℕ) → m ≡ sizeOf s → r ≡ turned q m 0 false → NameTells p n most s q r
+  named-more h l m z e t out k =
+      accepted (not (p .started) && ltb n most) (done s q t []) r p t out out k t (rw (h, lt-ltb n most l))
+      (tells-line r q t s [] out out k m 0 z refl (sym (placed-none k out)) e)
 
 -- a call is worked: its result and its buffer as left are those of y
 pub tells-call :

@@ -7,7 +7,7 @@ use native.Mathlib.Nat.{add-zero}
 use native.Mathlib.Numerals.{add-one}
 use native.Mathlib.Omega.{arith}
 use lib.Dec.{leb}
-use borrow.Author.Tests.{le-leb}
+use borrow.Author.Tests.{le-leb, leb-true}
 use lib.ListN.{length, take, drop, set, take-append-drop, length-append}
 use lib.Seq.{paste, length-paste, take-paste, drop-paste, take-length, drop-drop, drop-cons, lt-length-set, getD-set-same, drop-set-lt}
 use Rattle.printing.specs.Placing.{placed, written, writtenCount}
@@ -93,6 +93,14 @@ pub placed-next : (room k : ℕ) (a b out : List ℕ) {n m : ℕ} {x y : List �
 placed-next room k a b out {n} {m} {x} {y} h p q =
     let same : length x ≡ length out = rw (p .1) (length-placed k a out (omega arith)) in
     put-then k a b out (omega arith) p (placed-room room n b x (omega (arith, p .0)) q)
+
+-- a line of two pieces, put one after the other by a function that asks for room for the whole
+pub put-pieces : (room r s k : ℕ) (line a b out : List ℕ) {n m : ℕ} {x y : List ℕ} → leb (k + room) (length out) ≡ true → r ≤ room → length a + s ≤ room → line ≡ a ++ b
+    → Placed r k a out n x → Placed s n b x m y → (m - k ≡ writtenCount room k line out) × (y ≡ written room k line out)
+put-pieces room r s k line a b out h f g e p q =
+    put-whole room k line out h
+    (put-named k line (a ++ b) out e
+    (placed-next s k a b out (omega (arith, leb-true, h)) (placed-room r k a out (omega (arith, leb-true, h)) p) q))
 
 -- a line by another name, put where there is the room
 pub written-named : (room k : ℕ) (a b out : List ℕ) {n : ℕ} {new : List ℕ} → a ≡ b

@@ -1,11 +1,9 @@
 // Set-up: the state that a configuration starts with.
 ghost use mathlib.Core.Path.{_≡_};
-ghost use Rattle.laws.specs.Lists.{tab, pad};
-ghost use Rattle.rules.specs.Sizes.{maxGuests, maxEndpoints};
 ghost use Rattle.rules.specs.Configuration.{good};
 ghost use Rattle.rules.specs.State.{trimmed, stateOf, start, zeroState};
 ghost use Rattle.rules.specs.Device.{setUp};
-ghost use Rattle.effects.specs.Setting.{configured, started, keptOf};
+ghost use Rattle.effects.specs.Setting.{configured, started};
 use effects::Given;
 use rules::Answer;
 use rules::DomainRange;
@@ -46,87 +44,41 @@ pub fn zero_state() -> State
     }
 }
 
-// The shares, zero from place n on.
-fn kept_u32(n: usize, l: [u32; MAX_GUESTS]) -> [u32; MAX_GUESTS]
-    ensures { λ r. ⌜ r ≡ tab maxGuests (keptOf n l) ⌝ }
-{
-    let mut out = l;
-    for i in 0..MAX_GUESTS {
-        if i >= n {
-            out[i] = 0;
-        }
-    }
-    out
-}
-
-// The first, or the last, addresses, zero from place n on.
-fn kept_u64(n: usize, l: [u64; MAX_GUESTS]) -> [u64; MAX_GUESTS]
-    ensures { λ r. ⌜ r ≡ tab maxGuests (keptOf n l) ⌝ }
-{
-    let mut out = l;
-    for i in 0..MAX_GUESTS {
-        if i >= n {
-            out[i] = 0;
-        }
-    }
-    out
-}
-
 // The settings with the places of guests that are not in use zero.
 fn trim(s: Settings) -> Settings
     ensures { λ r. ⌜ r ≡ trimmed s ⌝ }
 {
-    let n = s.guests;
-    let shares = s.shares;
-    let firsts = s.firsts;
-    let lasts = s.lasts;
+    let mut shares = s.shares;
+    let mut firsts = s.firsts;
+    let mut lasts = s.lasts;
+    for i in s.guests..MAX_GUESTS {
+        shares[i] = 0;
+        firsts[i] = 0;
+        lasts[i] = 0;
+    }
     let mut next = s;
-    let a = kept_u32(n, shares);
-    let b = kept_u64(n, firsts);
-    let c = kept_u64(n, lasts);
-    next.shares = a;
-    next.firsts = b;
-    next.lasts = c;
+    next.shares = shares;
+    next.firsts = firsts;
+    next.lasts = lasts;
     next
 }
 
-// The endpoints in the state's places, zero after the last.
-fn padded_u32(l: &[u32]) -> [u32; MAX_ENDPOINTS]
-    ensures { λ r. ⌜ r ≡ pad maxEndpoints 0 (now (l .entry)) ⌝ }
-{
-    let mut out: [u32; MAX_ENDPOINTS] = [0; MAX_ENDPOINTS];
-    for i in 0..MAX_ENDPOINTS {
-        if i < l.len() {
-            out[i] = l[i];
-        } else {
-            out[i] = 0;
-        }
-    }
-    out
-}
-
-// The owners in the state's places, zero after the last.
-fn padded_u8(l: &[u8]) -> [u8; MAX_ENDPOINTS]
-    ensures { λ r. ⌜ r ≡ pad maxEndpoints 0 (now (l .entry)) ⌝ }
-{
-    let mut out: [u8; MAX_ENDPOINTS] = [0; MAX_ENDPOINTS];
-    for i in 0..MAX_ENDPOINTS {
-        if i < l.len() {
-            out[i] = l[i];
-        } else {
-            out[i] = 0;
-        }
-    }
-    out
-}
-
-// The state that a configuration starts with: all unattached, logs empty.
+// The state that a configuration starts with: all unattached, logs empty, and zero in the places after the last endpoint and
+// the last owner.
 fn start_state(s: Settings, endpoints: &[u32], owners: &[u8]) -> State
     ensures { λ r. ⌜ r ≡ stateOf (configured s (now (endpoints .entry)) (now (owners .entry))) (start (configured s (now (endpoints .entry)) (now (owners .entry)))) ⌝ }
 {
+    let mut numbers: [u32; MAX_ENDPOINTS] = [0; MAX_ENDPOINTS];
+    let mut holders: [u8; MAX_ENDPOINTS] = [0; MAX_ENDPOINTS];
+    for i in 0..MAX_ENDPOINTS {
+        if i < endpoints.len() {
+            numbers[i] = endpoints[i];
+        }
+        if i < owners.len() {
+            holders[i] = owners[i];
+        }
+    }
     let settings = trim(s);
-    let numbers = padded_u32(endpoints);
-    let holders = padded_u8(owners);
     let mut next = zero_state();
     next.settings = settings;
     next.listed = endpoints.len();

@@ -1,14 +1,13 @@
+-- The line of an access that goes through is its start, which is put first, and the address, which is put after it.
 use mathlib.Core.Path.{sym, _∙_}
-use mathlib.Core.List.{[], _∷_, _++_}
 use native.Mathlib.Omega.{arith}
 use borrow.Author.Needs.{needs}
-use borrow.Author.Tests.{not-true, not-false, leb-true}
+use borrow.Author.Tests.{not-true, not-false}
 use lib.ListN.{length}
-use Rattle.rules.specs.Answers.{addressOf}
-use Rattle.printing.specs.Text.{newline, address}
+use Rattle.printing.specs.Placing.{lineRoom}
 use Rattle.plain_lines.specs.Plain.{numberLine}
 use Rattle.lines.specs.Lines.{accessLine}
-use Rattle.printing.proofs.Places.{placed-room, placed-next, put-named, put-whole, put-none, written-named}
+use Rattle.printing.proofs.Places.{put-pieces, put-none, written-named}
 use Rattle.lines.proofs.Wording.{accessHead, access-through, access-refused}
 use Rattle.lines.proofs.put_access.Statement.{statement}
 use Rattle.lines.proofs.put_access.Tie as tie
@@ -18,7 +17,7 @@ refused c =
     let p = c .before .before in
     let t = p .before .before in
     let a = t .before .before .before .args in
-    written-named 64 (a .at) (accessLine (a .a)) (numberLine 65 (a .a)) (a .out .now)
+    written-named lineRoom (a .at) (accessLine (a .a)) (numberLine 65 (a .a)) (a .out .now)
     (access-refused (a .a) (λ h. t .if1 .taken (t .before .number-of .ensures ∙ h)))
     (p .put-number .ensures)
 
@@ -26,7 +25,7 @@ none : tie.Need-returns-2
 none c =
     let r = c .before .has-room in
     let a = c .before .before .before .before .before .args in
-    put-none 64 (a .at) (accessLine (a .a)) (a .out .now) (sym (r .ensures) ∙ not-true (r .result) (c .if2 .taken))
+    put-none lineRoom (a .at) (accessLine (a .a)) (a .out .now) (sym (r .ensures) ∙ not-true (r .result) (c .if2 .taken))
 
 through : tie.Need-returns-3
 through c =
@@ -37,13 +36,11 @@ through c =
     let e = t .before .before in
     let a = e .before .before .before .args in
     let r = t .before .has-room in
-    let yes = sym (r .ensures) ∙ not-false (r .result) (t .if2 .left) in
-    let line = address (addressOf (a .a)) ++ (newline ∷ []) in
-    put-whole 64 (a .at) (accessLine (a .a)) (a .out .now) yes
-    (put-named (a .at) (accessLine (a .a)) (accessHead ++ line) (a .out .now) (access-through (a .a) (sym (e .before .number-of .ensures) ∙ e .if1 .left))
-    (rw (l .address-line .ensures, l .before .address-of .ensures) at (placed-next (length (l .address-line .result)) (a .at) accessHead (l .address-line .result) (a .out .now) (omega (arith, leb-true, yes))
-    (placed-room 4 (a .at) accessHead (a .out .now) (omega (arith, leb-true, yes)) (p .put-bytes .ensures))
-    (q .put-bytes2 .ensures))))
+    put-pieces lineRoom 4 (length (l .address-line .result)) (a .at) (accessLine (a .a)) accessHead (l .address-line .result) (a .out .now)
+    (sym (r .ensures) ∙ not-false (r .result) (t .if2 .left)) (omega arith) (omega arith)
+    (rw (l .address-line .ensures, l .before .address-of .ensures) (access-through (a .a) (sym (e .before .number-of .ensures) ∙ e .if1 .left)))
+    (p .put-bytes .ensures)
+    (q .put-bytes2 .ensures)
 
 pub put-access-spec : {M : Type 1} → statement M
 put-access-spec =

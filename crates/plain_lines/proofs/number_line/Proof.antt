@@ -1,7 +1,7 @@
 use native.Mathlib.Omega.{arith}
 use borrow.Author.Needs.{needs}
 use Rattle.plain_lines.specs.Plain.{numberLine}
-use Rattle.plain_lines.proofs.Numbers.{number-small, number-text}
+use Rattle.plain_lines.proofs.Numbers.{small, number-text}
 use Rattle.plain_lines.proofs.number_line.Statement.{statement}
 use Rattle.plain_lines.proofs.number_line.Tie as tie
 
@@ -11,4 +11,4 @@ returns c = rw (number-text (c .before .args .a), c .number-of .ensures)
 
 pub number-line-spec : {M : Type 1} → statement M
 number-line-spec =
-    tie.close (tie.spec (λ c κs. search needs) (λ c. record { fits = omega (arith, number-small (c .before .args .a)) }) returns)
+    tie.close (tie.spec (λ c κs. search needs) (λ c. record { fits = omega (arith, small (c .before .args .a) .0) }) returns)

@@ -1,12 +1,14 @@
+-- The line of a bad journal is its words, which are put first, and the offset, which is put after them.
 use Prim.Native.Nat.{ℕ}
-use mathlib.Core.Path.{sym, _∙_}
+use mathlib.Core.Path.{refl, sym, _∙_}
 use mathlib.Core.List.{List, [], _∷_, _++_}
 use native.Mathlib.Omega.{arith}
 use borrow.Author.Needs.{needs}
-use borrow.Author.Tests.{not-true, not-false, leb-true}
+use borrow.Author.Tests.{not-true, not-false}
+use Rattle.printing.specs.Placing.{lineRoom}
 use Rattle.printing.specs.Text.{newline, decimal}
 use Rattle.plain_lines.specs.Plain.{badLine}
-use Rattle.printing.proofs.Places.{placed-room, placed-next, put-whole, put-none}
+use Rattle.printing.proofs.Places.{put-pieces, put-none}
 use Rattle.plain_lines.proofs.put_bad.Statement.{statement}
 use Rattle.plain_lines.proofs.put_bad.Tie as tie
 
@@ -18,7 +20,7 @@ none : tie.Need-returns
 none c =
     let r = c .before .has-room in
     let a = c .before .before .before .args in
-    put-none 64 (a .at) (badLine (a .offset)) (a .out .now) (sym (r .ensures) ∙ not-true (r .result) (c .if1 .taken))
+    put-none lineRoom (a .at) (badLine (a .offset)) (a .out .now) (sym (r .ensures) ∙ not-true (r .result) (c .if1 .taken))
 
 whole : tie.Need-returns-2
 unfolding badLine
@@ -28,11 +30,9 @@ whole c =
     let t = p .before .before .before in
     let r = t .before .has-room in
     let a = t .before .before .before .args in
-    let yes = sym (r .ensures) ∙ not-false (r .result) (t .if1 .left) in
-    put-whole 64 (a .at) (badLine (a .offset)) (a .out .now) yes
-    (placed-next 21 (a .at) badHead (decimal (a .offset) ++ (newline ∷ [])) (a .out .now) (omega (arith, leb-true, yes))
-    (placed-room 15 (a .at) badHead (a .out .now) (omega (arith, leb-true, yes)) (p .put-bytes .ensures))
-    (q .put-decimal .ensures .0, q .put-decimal .ensures .1))
+    put-pieces lineRoom 15 21 (a .at) (badLine (a .offset)) badHead (decimal (a .offset) ++ (newline ∷ [])) (a .out .now) (sym (r .ensures) ∙ not-false (r .result) (t .if1 .left)) (omega arith) (omega arith) refl
+    (p .put-bytes .ensures)
+    (q .put-decimal .ensures .0, q .put-decimal .ensures .1)
 
 pub put-bad-spec : {M : Type 1} → statement M
 put-bad-spec =
