@@ -1,7 +1,7 @@
 // Steps 2 to 6 of MAP for a record.
 ghost use mathlib.Core.Path.{_≡_};
 ghost use mathlib.Core.Bool.{_&&_, _||_};
-ghost use Prim.Native.Nat.{_+_, _-_, _%_, _≤_};
+ghost use Prim.Native.Nat.{_+_, _-_, _%_};
 ghost use lib.Dec.{leb, ltb, eqb};
 ghost use Rattle.rules.specs.Handlers.{granularity};
 ghost use Rattle.forms.specs.Forms.{formGood};
@@ -20,11 +20,14 @@ pub fn aligned(mask: u64, start: u64, end: u64) -> bool
     (start % g == 0) & (end % g == g - 1)
 }
 
-// Whether the addresses from phys on, as many as from start to end, lie in the window from first to last.
-fn in_window(first: u64, last: u64, phys: u64, start: u64, end: u64) -> bool
-    requires { ⌜ start ≤ end ⌝ }
-    ensures { λ r. ⌜ r ≡ (leb first phys && leb (phys + end - start) last) ⌝ }
+// Whether the addresses from phys on, as many as from start to end, lie in the window from first to last; false where there
+// are none from start to end.
+pub fn in_window(first: u64, last: u64, phys: u64, start: u64, end: u64) -> bool
+    ensures { λ r. ⌜ r ≡ (leb start end && (leb first phys && leb (phys + end - start) last)) ⌝ }
 {
+    if end < start {
+        return false;
+    }
     if last < phys {
         return false;
     }

@@ -3,5 +3,6 @@ mod form;
 mod runs;
 
 pub use form::aligned;
+pub use form::in_window;
 pub use form::opens;
 pub use runs::run_end;

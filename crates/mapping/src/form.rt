@@ -1,13 +1,13 @@
 // MAP's steps 2 to 6: flags, order of the addresses, granularity, input range and window.
 ghost use mathlib.Core.Path.{_≡_};
-ghost use mathlib.Core.Bool.{_||_};
 ghost use mathlib.Core.List.{[], _∷_};
-ghost use Prim.Native.Nat.{_+_, _-_, _<_, _≤_};
+ghost use Prim.Native.Nat.{_<_};
 ghost use Rattle.rules.specs.Sizes.{maxGuests};
 ghost use Rattle.rules.specs.Requests.{RANGE, FAULT};
 ghost use Rattle.rules.specs.Handlers.{outside};
 ghost use Rattle.effects.specs.Flat.{firstOf, formStatus};
 use forms::aligned;
+use forms::in_window;
 use rules::Guest;
 use rules::Mapping;
 use rules::Settings;
@@ -21,17 +21,6 @@ fn is_outside(a: u64, b: u64, x: u64) -> bool
     ensures { λ r. ⌜ r ≡ outside a b x ⌝ }
 {
     (x < a) | (b < x)
-}
-
-// Whether one of the addresses from phys on, as many as from start to end, lies outside those from first to last.
-fn leaves_window(first: u64, last: u64, phys: u64, start: u64, end: u64) -> bool
-    requires { ⌜ start ≤ end ⌝ }
-    ensures { λ x. ⌜ x ≡ (outside first last phys || outside first last (phys + end - start)) ⌝ }
-{
-    if last < phys {
-        return true;
-    }
-    (phys < first) | (last - phys < end - start)
 }
 
 // The status of MAP's steps 4 to 6.
@@ -67,6 +56,6 @@ pub(crate) fn form_status(s: Settings, g: Guest, r: Mapping) -> u8
     let grain = aligned(s.mask, r.start, r.end);
     let low = is_outside(s.input.start, s.input.end, r.start);
     let high = is_outside(s.input.start, s.input.end, r.end);
-    let window = leaves_window(first, last, r.phys, r.start, r.end);
-    first_place(!grain, low | high, window)
+    let window = in_window(first, last, r.phys, r.start, r.end);
+    first_place(!grain, low | high, !window)
 }

@@ -13,7 +13,7 @@ returns-2 c = let a = c .before .before .before .before .args in form-order (a .
 returns-3 : tie.Need-returns-3
 returns-3 c =
     let x = c .first-place in
-    let w = c .before .leaves-window in
+    let w = c .before .in-window in
     let j = c .before .before .is-outside2 in
     let i = c .before .before .before .is-outside in
     let n = c .before .before .before .before .aligned in
