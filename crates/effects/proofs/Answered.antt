@@ -35,11 +35,11 @@ use Rattle.rules.specs.Device.{access-by, fetch-for, Reply, rule, ownerOf, call
 use Rattle.rules.specs.Device as rules
 use Rattle.rules.proofs.Worlds.{caller-below}
 use Rattle.rules.proofs.Reading.{sound-good, sound-listed, log-read}
+use Rattle.state.specs.Pieces.{Shaped}
 use Rattle.logging.specs.Changes.{faultLogged}
 use Rattle.dropping.specs.Changes.{faultsDropped}
 use Rattle.attachments.specs.Search.{indexOf}
 use Rattle.effects.specs.Flat.{device, placeOf, isAttached, liveRecords, answerOf, decided, decision, accessed, fetchCount, fetchBytes}
-use Rattle.effects.specs.Checked.{Shaped}
 use Rattle.effects.proofs.Places.{owner-at}
 use Rattle.effects.proofs.Leaving.{replace-same, attachment-here, flag-here, number-here, of-key-mine}
 use Rattle.effects.proofs.Requested.{small-domain, fault-written, fetch-written}

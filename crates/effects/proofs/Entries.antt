@@ -36,11 +36,11 @@ use Rattle.rules.proofs.Worlds.{Whole}
 use Rattle.rules.proofs.Access.{permits-covers}
 use Rattle.rules.proofs.Reading.{tests, sound-good, sound-whole}
 use Rattle.rules.proofs.Soundness.{all-guests}
+use Rattle.state.specs.Pieces.{Shaped}
 use Rattle.layouts.specs.declared.request.Request.{Request}
 use Rattle.layouts.specs.declared.request.Request.the-variants.{Refused, Attach, Detach, Map, Unmap}
 use Rattle.layouts.specs.Parsed.{mapFields, unmapFields, asked, unless, parsed}
 use Rattle.layouts.proofs.request.Request as request-type
-use Rattle.effects.specs.Checked.{Shaped}
 use Rattle.effects.specs.Flat.{device, Worked, worked, resetFlat, decision, accessed, fetchCount, fetchBytes}
 use Rattle.effects.specs.Serve.{handled}
 use Rattle.effects.proofs.Shape.{small-count}

@@ -23,9 +23,9 @@ use Rattle.rules.specs.Handlers.{outside}
 use Rattle.rules.specs.Sound.{guest, attachmentGood, zeroFrom, faultZero, faultPlaceGood, unusedTests, sound}
 use Rattle.rules.proofs.Words.{length-records, words-split}
 use Rattle.rules.proofs.Zeros.{zero-at}
-use Rattle.effects.specs.Checked.{Shaped}
 use Rattle.rules.proofs.Worlds.{Good}
 use Rattle.rules.proofs.Reading.{tests, sound-good, sound-listed}
+use Rattle.state.specs.Pieces.{Shaped}
 
 -- a list by index with zero past n is the list that is zero there
 kept-until : (m n : ℕ) (l : List ℕ) → length l ≡ m → zeroFrom n l ≡ true → tab m (λ g. cond (ltb g n) (getD l g 0) 0) ≡ l

@@ -24,11 +24,11 @@ use Rattle.rules.specs.Device as rules
 use Rattle.rules.proofs.Worlds.{Whole}
 use Rattle.rules.proofs.Writing.{kept}
 use Rattle.rules.proofs.Reading.{sound-whole}
+use Rattle.state.specs.Pieces.{Shaped}
 use Rattle.layouts.specs.Parsed.{asked, mapFields, unmapFields}
 use Rattle.layouts.specs.declared.request.Request.the-variants.{Attach, Detach, Map, Unmap}
 use Rattle.effects.specs.Flat.{Worked, worked, mapFlat, resetFlat}
 use Rattle.effects.specs.Serve.{recordOf, handled}
-use Rattle.effects.specs.Checked.{Shaped}
 use Rattle.effects.proofs.Shape.{settings-back, state-back, table-back}
 use Rattle.effects.proofs.Leaving.{replace-same}
 use Rattle.effects.proofs.Requested.{attach-written, detach-written, map-written, unmap-written, reset-written}

@@ -1,8 +1,6 @@
 -- The lengths of a state's arrays.
 use Prim.Native.Nat.{ℕ}
-use mathlib.Core.Path.{_≡_}
 use mathlib.Core.List.{List}
-use lib.ListN.{length}
 use mir.Val.{Val}
 use denote.Laws.{Is}
 use denote.Struct.Declared.{row}
@@ -10,28 +8,26 @@ use borrow.Author.Needs.{length-unmapped}
 use Rattle.rules.specs.Sizes.{maxGuests, maxEndpoints, faultPlaces}
 use Rattle.rules.specs.declared.State.{State}
 use Rattle.rules.proofs.State as declared-state
+use Rattle.state.specs.Pieces.{Shaped}
 
-pub record Sized (s : State) : Type 0 where
-  pub attached : length (s .attached) ≡ maxEndpoints
-  pub domains : length (s .domains) ≡ maxEndpoints
-  pub logged : length (s .logged) ≡ maxGuests
-  pub lost : length (s .lost) ≡ maxGuests
-  pub reasons : length (s .reasons) ≡ faultPlaces
-  pub flags : length (s .flags) ≡ faultPlaces
-  pub sources : length (s .sources) ≡ faultPlaces
-  pub addresses : length (s .addresses) ≡ faultPlaces
-
--- each state that a function is handed has them
-pub sized : (s : State) (vs : List Val) → Is (row declared-state.the-type) s vs → Sized s
-sized s vs h =
-    let w = h .1 .1 .1 .1 .1 .1 in
+-- each state that a function is handed has the lengths that the types of its arrays fix
+pub shaped : (s : State) (vs : List Val) → Is (row declared-state.the-type) s vs → Shaped s
+shaped s vs h =
+    let o = h .1 .1 .0 .1 .1 .1 in
+    let w = h .1 .1 .1 .1 in
+    let x = w .1 .1 in
     record {
-      attached = length-unmapped ℕ (s .attached) maxEndpoints (w .0 .1 .0 .1);
-      domains = length-unmapped ℕ (s .domains) maxEndpoints (w .1 .0 .1 .0 .1);
-      logged = length-unmapped ℕ (s .logged) maxGuests (w .1 .1 .1 .0 .1 .0 .1);
-      lost = length-unmapped ℕ (s .lost) maxGuests (w .1 .1 .1 .1 .0 .1 .0 .1);
-      reasons = length-unmapped ℕ (s .reasons) faultPlaces (w .1 .1 .1 .1 .1 .0 .1 .0 .1);
-      flags = length-unmapped ℕ (s .flags) faultPlaces (w .1 .1 .1 .1 .1 .1 .0 .1 .0 .1);
-      sources = length-unmapped ℕ (s .sources) faultPlaces (w .1 .1 .1 .1 .1 .1 .1 .0 .1 .0 .1);
-      addresses = length-unmapped ℕ (s .addresses) faultPlaces (w .1 .1 .1 .1 .1 .1 .1 .1 .0 .1 .0 .1);
+      shares = length-unmapped ℕ (s .settings .shares) maxGuests (o .0 .1 .0 .1);
+      firsts = length-unmapped ℕ (s .settings .firsts) maxGuests (o .1 .0 .1 .0 .1);
+      lasts = length-unmapped ℕ (s .settings .lasts) maxGuests (o .1 .1 .0 .1 .0 .1);
+      endpoints = length-unmapped ℕ (s .endpoints) maxEndpoints (w .0 .1 .0 .1);
+      owners = length-unmapped ℕ (s .owners) maxEndpoints (w .1 .0 .1 .0 .1);
+      attached = length-unmapped ℕ (s .attached) maxEndpoints (x .0 .1 .0 .1);
+      domains = length-unmapped ℕ (s .domains) maxEndpoints (x .1 .0 .1 .0 .1);
+      logged = length-unmapped ℕ (s .logged) maxGuests (x .1 .1 .1 .0 .1 .0 .1);
+      lost = length-unmapped ℕ (s .lost) maxGuests (x .1 .1 .1 .1 .0 .1 .0 .1);
+      reasons = length-unmapped ℕ (s .reasons) faultPlaces (x .1 .1 .1 .1 .1 .0 .1 .0 .1);
+      flags = length-unmapped ℕ (s .flags) faultPlaces (x .1 .1 .1 .1 .1 .1 .0 .1 .0 .1);
+      sources = length-unmapped ℕ (s .sources) faultPlaces (x .1 .1 .1 .1 .1 .1 .1 .0 .1 .0 .1);
+      addresses = length-unmapped ℕ (s .addresses) faultPlaces (x .1 .1 .1 .1 .1 .1 .1 .1 .0 .1 .0 .1);
     }

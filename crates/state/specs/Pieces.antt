@@ -1,6 +1,9 @@
--- The state that its pieces make up, where they are lent one by one.
+-- A state as its pieces, which may be lent one by one, and the lengths of its arrays.
 use Prim.Native.Nat.{ℕ}
+use mathlib.Core.Path.{_≡_}
 use mathlib.Core.List.{List}
+use lib.ListN.{length}
+use Rattle.rules.specs.Sizes.{maxGuests, maxEndpoints, faultPlaces}
 use Rattle.rules.specs.declared.Settings.{Settings}
 use Rattle.rules.specs.declared.State.{State}
 
@@ -22,3 +25,19 @@ stateWith settings listed live endpoints owners attached domains logged lost rea
       sources = sources;
       addresses = addresses;
     }
+
+-- the lengths of the state's arrays, which their types fix
+pub record Shaped (s : State) : Type 0 where
+  pub shares : length (s .settings .shares) ≡ maxGuests
+  pub firsts : length (s .settings .firsts) ≡ maxGuests
+  pub lasts : length (s .settings .lasts) ≡ maxGuests
+  pub endpoints : length (s .endpoints) ≡ maxEndpoints
+  pub owners : length (s .owners) ≡ maxEndpoints
+  pub attached : length (s .attached) ≡ maxEndpoints
+  pub domains : length (s .domains) ≡ maxEndpoints
+  pub logged : length (s .logged) ≡ maxGuests
+  pub lost : length (s .lost) ≡ maxGuests
+  pub reasons : length (s .reasons) ≡ faultPlaces
+  pub flags : length (s .flags) ≡ faultPlaces
+  pub sources : length (s .sources) ≡ faultPlaces
+  pub addresses : length (s .addresses) ≡ faultPlaces

@@ -3,7 +3,7 @@ use mathlib.Core.Path.{refl}
 use lib.Dec.{lit≤}
 use lib.Seq.{set-out}
 use Rattle.attachments.specs.Changes.{attachedAt}
-use Rattle.state.proofs.Lengths.{sized}
+use Rattle.state.proofs.Lengths.{shaped}
 use Rattle.state.proofs.Offsets.{times-four}
 use Rattle.attachments.proofs.attach_at.Statement.{statement}
 use Rattle.attachments.proofs.attach_at.Tie as tie
@@ -16,7 +16,7 @@ returns-2 : tie.Need-returns-2
 unfolding attachedAt
 returns-2 c =
     let a = c .before .args in
-    let n = sized (a .s) _ (c .before .good .0) in
+    let n = shaped (a .s) _ (c .before .good .0) in
     rw (
       set-out (a .s .attached) (a .i) (a .flag) (rw (n .attached) (c .if1 .left)),
       set-out (a .s .domains) (a .i) (a .d .0) (rw (n .domains) (c .if1 .left)),

@@ -4,13 +4,14 @@ use mathlib.Core.Path.{_≡_}
 use native.Mathlib.Omega.{arith}
 use mir.Syntax.{w64}
 use mir.Val.{Fits}
+use Rattle.rules.specs.Sizes.{maxGuests}
 use Rattle.rules.specs.Configuration.{last}
 use lib.ListN.{length}
 use borrow.Author.Needs.{needs}
 use Rattle.checks.proofs.lent_sound.Statement.{statement}
 use Rattle.checks.proofs.lent_sound.Tie as tie
 
-own-lengths : (c : tie.Start) → (length (c .args .settings .shares) ≡ 4) × (length (c .args .settings .firsts) ≡ 4) × (length (c .args .settings .lasts) ≡ 4)
+own-lengths : (c : tie.Start) → (length (c .args .settings .shares) ≡ maxGuests) × (length (c .args .settings .firsts) ≡ maxGuests) × (length (c .args .settings .lasts) ≡ maxGuests)
 own-lengths c = (search needs, search needs, search needs)
 
 lasts-fit : (c : tie.Start) (i : ℕ) → last (c .args .settings) i ≤ 18446744073709551615

@@ -2,7 +2,7 @@
 use native.Mathlib.Nat.{min-le-left}
 use borrow.Author.Needs.{needs}
 use lib.ListN.{getD}
-use Rattle.state.proofs.Lengths.{sized}
+use Rattle.state.proofs.Lengths.{shaped}
 use Rattle.state.proofs.Offsets.{times-eight, guest-below}
 use Rattle.dropping.specs.Changes.{faultsDropped}
 use Rattle.dropping.proofs.Oldest.{none-shifted, none-counted, some-guest, minus-least}
@@ -14,7 +14,7 @@ unfolding faultsDropped
 returns c =
     let b = c .before .before in
     let s = b .args .s in
-    let n = sized s _ (b .good .0) in
+    let n = shaped s _ (b .good .0) in
     let t = none-shifted (b .args .g .0) (b .args .k) (c .if1 .taken) in
     rw (
       none-counted (b .args .g .0) (b .args .k) (c .if1 .taken) (s .logged) (n .logged),

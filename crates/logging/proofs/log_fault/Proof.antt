@@ -9,7 +9,7 @@ use lib.ListN.{getD, List·getD-eq-default}
 use lib.Seq.{set-out}
 use Rattle.rules.specs.Sizes.{maxGuests, maxFaults, faultPlaces, maxLost}
 use Rattle.logging.specs.Changes.{faultStored, faultLogged}
-use Rattle.state.proofs.Lengths.{sized}
+use Rattle.state.proofs.Lengths.{shaped}
 use Rattle.state.proofs.Offsets.{place-fits, times-four, times-eight, guest-below}
 use Rattle.logging.proofs.Counts.{guest-faults, fault-below, logged-rises, lost-rises}
 use Rattle.logging.proofs.log_fault.Statement.{statement}
@@ -25,7 +25,7 @@ returns c =
     let s = a .t1 in
     let g = a .g .0 in
     let h : maxGuests ≤ g = c .if1 .taken in
-    let n = sized s _ (c .before .before .good .0) in
+    let n = shaped s _ (c .before .before .good .0) in
     let z : getD (s .logged) g 0 ≡ 0 = List·getD-eq-default (s .logged) 0 (rw (n .logged) h) in
     rw (
       z,

@@ -4,7 +4,7 @@ use Prim.Native.Nat.{_-_}
 use lib.ListN.{getD}
 use lib.Seq.{set-out, set-set}
 use Rattle.rules.specs.Sizes.{maxFaults}
-use Rattle.state.proofs.Lengths.{sized}
+use Rattle.state.proofs.Lengths.{shaped}
 use Rattle.state.proofs.Offsets.{times-four, times-eight, guest-below}
 use Rattle.dropping.specs.Changes.{faultsDropped}
 use Rattle.resets.specs.Changes.{guestCleared}
@@ -23,7 +23,7 @@ returns-2 c =
     let b = c .before .before .before .before in
     let s = b .args .s in
     let g = b .args .g .0 in
-    let n = sized s _ (b .good .0) in
+    let n = shaped s _ (b .good .0) in
     rw (
       c .before .detach-all .ensures,
       c .before .before .drop-faults .ensures,

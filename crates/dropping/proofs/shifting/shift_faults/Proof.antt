@@ -4,7 +4,7 @@ use borrow.Author.Needs.{needs}
 use Prim.Native.Nat.{_+_, _*_, _-_, _≤_}
 use mathlib.Core.Logic.{⊎-elim}
 use Rattle.rules.specs.Sizes.{maxFaults}
-use Rattle.state.proofs.Lengths.{sized}
+use Rattle.state.proofs.Lengths.{shaped}
 use Rattle.dropping.proofs.Oldest.{Shifted, shift-first, shift-in, shift-out, shift-last}
 use Rattle.dropping.proofs.shifting.shift_faults.Statement.{statement}
 use Rattle.dropping.proofs.shifting.shift_faults.Tie as tie
@@ -20,7 +20,7 @@ abbrev μ-loop : tie.MeasureT-loop
 loop-holds : tie.Need-loop-holds Inv-loop μ-loop
 loop-holds c =
     let b = c .before .before .before .before in
-    let n = sized (b .args .s) _ (b .good .0) in
+    let n = shaped (b .args .s) _ (b .good .0) in
     let t = shift-first (b .args .g) (b .args .k) in
     (omega arith, omega arith, (t _ (n .reasons), t _ (n .flags), t _ (n .sources), t _ (n .addresses)))
 

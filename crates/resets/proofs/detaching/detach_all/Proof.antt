@@ -4,7 +4,7 @@ use borrow.Author.Needs.{needs}
 use Prim.Native.Nat.{_-_, _≤_}
 use mathlib.Core.Logic.{⊎-elim}
 use Rattle.rules.specs.Sizes.{maxEndpoints}
-use Rattle.state.proofs.Lengths.{sized}
+use Rattle.state.proofs.Lengths.{shaped}
 use Rattle.resets.proofs.Zeroing.{Zeroed, zero-first, zero-in, zero-out, zero-last}
 use Rattle.resets.proofs.detaching.detach_all.Statement.{statement}
 use Rattle.resets.proofs.detaching.detach_all.Tie as tie
@@ -20,7 +20,7 @@ loop-holds : tie.Need-loop-holds Inv-loop μ-loop
 loop-holds c =
     let b = c .before .before .before in
     let s = b .args .s in
-    let n = sized s _ (b .good .0) in
+    let n = shaped s _ (b .good .0) in
     let t = zero-first (s .listed) (b .args .g) (s .owners) in
     (omega arith, (t _ (n .attached), t _ (n .domains)))
 
