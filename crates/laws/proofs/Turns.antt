@@ -1,9 +1,10 @@
 -- What one turn of a loop adds: to a test of the numbers below one, and to what is left of a list.
-use Prim.Native.Nat.{ℕ, zero, suc, _+_, _≤_, _<_}
+use Prim.Native.Nat.{ℕ, zero, suc, _+_, _*_, _≤_, _<_}
 use mathlib.Core.Path.{_≡_, refl, sym, _∙_}
-use mathlib.Core.Bool.{Bool, true, _&&_}
+use mathlib.Core.Bool.{Bool, true, false, _&&_, and-true, and-comm}
 use mathlib.Core.List.{List, _∷_}
 use native.Mathlib.Omega.{arith}
+use native.Mathlib.Nat.{add-zero, add-suc, mul-zero, mul-suc}
 use native.Mathlib.Numerals.{add-one}
 use lib.ListN.{length, getD, drop}
 use lib.Seq.{drop-cons}
@@ -37,6 +38,23 @@ pub below-same : (n : ℕ) (p q : ℕ → Bool) → ((i : ℕ) → i < n → p i
 unfolding below
 below-same zero p q f = refl
 below-same (suc n) p q f = rw (f n (omega arith), below-same n p q (λ i h. f i (omega arith)))
+
+-- the numbers below a, then the b that follow
+pub below-append : (a b : ℕ) (q : ℕ → Bool) → below (a + b) q ≡ (below a q && below b (λ j. q (a + j)))
+unfolding below
+below-append a zero q = rw (add-zero a) (sym (and-true (below a q)))
+below-append a (suc b) q = rw (add-suc a b, below-append a b q) (go (q (a + b)) (below a q) _)
+  where
+    go : (x y z : Bool) → (x && (y && z)) ≡ (y && (x && z))
+    go true y z = refl
+    go false true z = refl
+    go false false z = refl
+
+-- n times m numbers, row by row
+pub below-grid : (n m : ℕ) (q : ℕ → Bool) → below m (λ g. below n (λ j. q (n * g + j))) ≡ below (n * m) q
+unfolding below
+below-grid n zero q = rw (mul-zero n)
+below-grid n (suc m) q = rw (mul-suc n m, below-append (n * m) n q, below-grid n m q) (and-comm (below n (λ j. q (n * m + j))) (below (n * m) q))
 
 -- over a list, of which what is left to look at is a suffix
 pub drop-next : {A : Type 0} (xs : List A) (i : ℕ) (z : A) → i < length xs → drop i xs ≡ getD xs i z ∷ drop (i + 1) xs

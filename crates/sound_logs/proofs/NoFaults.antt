@@ -1,7 +1,8 @@
 -- Where no log has a fault, all places for faults are zero.
-use Prim.Native.Nat.{ℕ, _/_, _%_}
+use Prim.Native.Nat.{ℕ, _+_, _/_, _%_}
 use mathlib.Core.Path.{_≡_, refl}
 use mathlib.Core.Bool.{Bool, true, false, _&&_, and-false}
+use native.Mathlib.Nat.{zero-add}
 use native.Mathlib.Omega.{arith}
 use lib.Bits.{bitOr}
 use lib.Dec.{eqb}
@@ -18,13 +19,13 @@ use Rattle.rules.specs.State.{faultAt}
 use Rattle.rules.specs.Sound.{faultZero, faultPlaceGood}
 
 -- a log that has no fault has all its places zero
-pub no-faults : (c : Config) (s : State) → below maxGuests (λ g. eqb (getD (s .logged) g 0) 0) ≡ true → below faultPlaces (faultPlaceGood c s) ≡ below faultPlaces (λ i. faultZero (faultAt s i))
+pub no-faults : (c : Config) (s : State) → below maxGuests (λ g. eqb (getD (s .logged) g 0) 0) ≡ true → below faultPlaces (faultPlaceGood c s) ≡ below faultPlaces (λ i. faultZero (faultAt s (0 + i)))
 unfolding faultPlaceGood
 no-faults c s h =
-    below-same faultPlaces (faultPlaceGood c s) (λ i. faultZero (faultAt s i))
+    below-same faultPlaces (faultPlaceGood c s) (λ i. faultZero (faultAt s (0 + i)))
     (λ i k.
     let none : getD (s .logged) (i / maxFaults) 0 ≡ 0 = eqb-true _ 0 (below-at maxGuests _ (i / maxFaults) h (omega arith)) in
-    rw (none, le-ltb (i % maxFaults) 0 (omega arith)))
+    rw (none, le-ltb (i % maxFaults) 0 (omega arith), zero-add i))
 
 -- one more place, where the bits of its numbers are gathered
 pub zero-turn : (reason flags source address narrow broad : ℕ)

@@ -1,14 +1,15 @@
 -- What the test of the fault logs looks at.
 use Prim.Native.Nat.{ℕ}
-use mathlib.Core.Bool.{Bool, cond, _&&_}
+use mathlib.Core.Bool.{Bool, cond}
 use mathlib.Core.List.{List, []}
-use lib.Dec.{ltb, eqb}
+use lib.Dec.{ltb}
 use lib.ListN.{getD}
 use Rattle.rules.specs.Sizes.{maxGuests}
 use Rattle.rules.specs.declared.State.{State}
+use Rattle.rules.specs.declared.Fault.{Fault}
 use Rattle.rules.specs.State.{zeroState}
 use Rattle.rules.specs.Guests.{Own}
-use Rattle.rules.specs.Sound.{guest}
+use Rattle.rules.specs.Sound.{guest, faultGood, faultZero}
 use Rattle.state.specs.Pieces.{stateWith}
 
 -- a state of endpoints and faults alone: what the test of the fault places looks at
@@ -30,10 +31,14 @@ endpointsAlone es =
       endpoints = es;
     }
 
--- place i of the faults is zero
-abbrev pub placeZero : List ℕ → List ℕ → List ℕ → List ℕ → ℕ → Bool
-placeZero reasons flags sources addresses i =
-    (eqb (getD reasons i 0) 0 && eqb (getD flags i 0) 0) && (eqb (getD sources i 0) 0 && eqb (getD addresses i 0) 0)
+-- the fault at place i
+abbrev pub faultIn : List ℕ → List ℕ → List ℕ → List ℕ → ℕ → Fault
+faultIn reasons flags sources addresses i =
+    record { reason = getD reasons i 0; flags = getD flags i 0; endpoint = record { 0 = getD sources i 0 }; address = getD addresses i 0 }
+
+-- place j of a guest's log, of which so many are in use, with the fault f; es are the guest's endpoints
+abbrev pub placeGood : ℕ → List ℕ → ℕ → Fault → Bool
+placeGood count es j f = cond (ltb j count) (faultGood (endpointsAlone es) f) (faultZero f)
 
 -- the owner of the endpoint at place j among the first n; past them a number that is no guest's
 unfoldable pub ownerAmong : ℕ → List ℕ → ℕ → ℕ

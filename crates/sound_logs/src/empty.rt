@@ -1,10 +1,12 @@
-// Logs without a fault.
+// Logs without a fault, and places that no fault is in.
 ghost use mathlib.Core.Path.{_≡_};
+ghost use Prim.Native.Nat.{_+_, _≤_};
 ghost use lib.Dec.{eqb};
 ghost use lib.ListN.{getD};
 ghost use Rattle.laws.specs.Lists.{below};
 ghost use Rattle.rules.specs.Sizes.{maxGuests, faultPlaces};
-ghost use Rattle.sound_logs.specs.Faults.{placeZero};
+ghost use Rattle.rules.specs.Sound.{faultZero};
+ghost use Rattle.sound_logs.specs.Faults.{faultIn};
 use rules::sizes::FAULT_PLACES;
 use rules::sizes::MAX_GUESTS;
 
@@ -27,18 +29,22 @@ fn wide(x: u8) -> u32
     x as u32
 }
 
-// Whether all places for faults are zero.
-pub(crate) fn all_zero<'a>(
+// Whether the n places for faults from place `first` on are zero.
+pub(crate) fn zero_places<'a>(
+    first: usize,
+    n: usize,
     reasons: &'a [u8; FAULT_PLACES],
     flags: &'a [u32; FAULT_PLACES],
     sources: &'a [u32; FAULT_PLACES],
     addresses: &'a [u64; FAULT_PLACES],
 ) -> bool
-    ensures { λ r. ⌜ r ≡ below faultPlaces (placeZero (now (reasons .entry)) (now (flags .entry)) (now (sources .entry)) (now (addresses .entry))) ⌝ }
+    requires { ⌜ first + n ≤ faultPlaces ⌝ }
+    ensures { λ r. ⌜ r ≡ below n (λ j. faultZero (faultIn (now (reasons .entry)) (now (flags .entry)) (now (sources .entry)) (now (addresses .entry)) (first + j))) ⌝ }
 {
     let mut narrow: u32 = 0;
     let mut broad: u64 = 0;
-    for i in 0..FAULT_PLACES {
+    for j in 0..n {
+        let i = first + j;
         let reason = wide(reasons[i]);
         narrow = (reason | (flags[i] | sources[i])) | narrow;
         broad = addresses[i] | broad;

@@ -1,51 +1,28 @@
 // The test of the guests' fault logs.
 mod empty;
+mod held;
 mod named;
 
 ghost use mathlib.Core.Path.{_≡_};
-ghost use mathlib.Core.Bool.{cond, _&&_};
+ghost use mathlib.Core.Bool.{_&&_};
 ghost use Prim.Native.Nat.{_≤_};
 ghost use lib.Dec.{leb};
 ghost use lib.ListN.{length};
-ghost use Rattle.laws.specs.Lists.{below, pickBy};
+ghost use Rattle.laws.specs.Lists.{below};
 ghost use Rattle.rules.specs.Sizes.{maxEndpoints, faultPlaces};
 ghost use Rattle.rules.specs.State.{configOf};
-ghost use Rattle.rules.specs.Sound.{faultGood, faultZero, faultPlaceGood};
-ghost use Rattle.sound_logs.specs.Faults.{endpointsAlone, faultsAlone};
-use empty::all_zero;
+ghost use Rattle.rules.specs.Sound.{faultPlaceGood};
+ghost use Rattle.sound_logs.specs.Faults.{faultsAlone};
 use empty::none_logged;
-use named::SLOTS;
+use empty::zero_places;
+use held::log_good;
 use named::hints_of;
-use named::is_named;
 use named::owners_among;
-use rules::Endpoint;
-use rules::Fault;
 use rules::sizes::FAULT_PLACES;
 use rules::sizes::MAX_ENDPOINTS;
-use rules::sizes::MAX_FAULTS;
 use rules::sizes::MAX_GUESTS;
 
-// Whether f, at a place that is in use or not, is a fault of guest g or zero.
-fn fault_good<'a>(
-    endpoints: &'a [u32],
-    owners: &'a [u32],
-    hints: &'a [u8; SLOTS],
-    g: u32,
-    used: bool,
-    f: Fault,
-) -> bool
-    requires { ⌜ (length (now owners) ≡ maxEndpoints) × (length (now endpoints) ≡ maxEndpoints) ⌝ }
-    ensures { λ r. ⌜ r ≡ cond used (faultGood (endpointsAlone (pickBy g (now (owners .entry)) (now (endpoints .entry)))) f) (faultZero f) ⌝ }
-{
-    if used {
-        let e = f.endpoint;
-        return ((f.reason == 1) | (f.reason == 2))
-            & (((f.flags == 257) | (f.flags == 258)) & is_named(endpoints, owners, hints, g, e));
-    }
-    ((f.reason == 0) & (f.flags == 0)) & ((f.endpoint.0 == 0) & (f.address == 0))
-}
-
-// Whether each place for a fault is good, one by one.
+// Whether each place for a fault is good, guest by guest.
 fn places_good<'a>(
     n: usize,
     endpoints: &'a [u32],
@@ -62,23 +39,18 @@ fn places_good<'a>(
     let listed = owners_among(n, owners);
     let hints = hints_of(endpoints);
     let mut ok = true;
-    for i in 0..FAULT_PLACES {
-        let g = i / MAX_FAULTS;
+    for g in 0..MAX_GUESTS {
         let count = logged[g];
-        let e = sources[i];
-        let f = Fault {
-            reason: reasons[i],
-            flags: flags[i],
-            endpoint: Endpoint(e),
-            address: addresses[i],
-        };
-        ok = fault_good(
+        ok = log_good(
+            g,
+            count,
             endpoints,
             &listed,
             &hints,
-            g as u32,
-            i % MAX_FAULTS < count,
-            f,
+            reasons,
+            flags,
+            sources,
+            addresses,
         )
             & ok;
     }
@@ -103,7 +75,7 @@ pub fn faults_good<'a>(
         return false;
     }
     if none_logged(logged) {
-        return all_zero(reasons, flags, sources, addresses);
+        return zero_places(0, FAULT_PLACES, reasons, flags, sources, addresses);
     }
     places_good(
         n,

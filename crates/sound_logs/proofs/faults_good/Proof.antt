@@ -17,7 +17,7 @@ returns-2 c =
     let t = c .before in
     let a = t .before .before .before .args in
     let d = faultsAlone (a .n) (a .endpoints .now) (a .owners .now) (a .logged .now) (a .reasons .now) (a .flags .now) (a .sources .now) (a .addresses .now) in
-    rw (c .all-zero .ensures, le-leb (a .n) maxEndpoints (omega arith)) (sym (no-faults (configOf d) d (sym (t .before .none-logged .ensures) ∙ t .if2 .taken)))
+    rw (c .zero-places .ensures, le-leb (a .n) maxEndpoints (omega arith)) (sym (no-faults (configOf d) d (sym (t .before .none-logged .ensures) ∙ t .if2 .taken)))
 
 places-good-requires : tie.Need-places-good-requires
 places-good-requires c κs = (omega arith, c .places-good-arg2 .given .0, c .before .places-good-arg .given .0)
@@ -30,4 +30,4 @@ returns-3 c =
 pub faults-good-spec : {M : Type 1} → statement M
 faults-good-spec =
     tie.close
-    (tie.spec returns (λ c κs. tt) (λ c κs. tt) returns-2 places-good-requires returns-3)
+    (tie.spec returns (λ c κs. tt) (λ c κs. omega arith) returns-2 places-good-requires returns-3)
