@@ -1,3 +1,4 @@
+-- `attachments::attach_at` meets its contract. Assumes nothing.
 use native.Mathlib.Nat.{lt-of-lt-of-le}
 use mathlib.Core.Path.{refl}
 use lib.Dec.{lit≤}

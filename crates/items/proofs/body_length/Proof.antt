@@ -1,3 +1,4 @@
+-- `items::body_length` meets its contract. Assumes nothing.
 use native.Mathlib.Omega.{arith}
 use borrow.Author.Tests.{ne-eqb}
 use Rattle.items.specs.Items.{bodyLength}

@@ -1,3 +1,4 @@
+-- `items::size_of` meets its contract. Assumes nothing.
 use mathlib.Core.Path.{sym}
 use native.Mathlib.Numerals.{add-one}
 use native.Mathlib.Omega.{arith}

@@ -1,3 +1,4 @@
+-- `lengths::readable_length` meets its contract. Assumes nothing.
 use borrow.Author.Tests.{ne-eqb}
 use Rattle.lengths.proofs.readable_length.Statement.{statement}
 use Rattle.lengths.proofs.readable_length.Tie as tie

@@ -1,3 +1,4 @@
+-- `plain_lines::number_line` meets its contract. Assumes nothing.
 use native.Mathlib.Omega.{arith}
 use borrow.Author.Needs.{needs}
 use Rattle.plain_lines.specs.Plain.{numberLine}

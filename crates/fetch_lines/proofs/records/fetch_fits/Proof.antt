@@ -1,3 +1,4 @@
+-- `fetch_lines::records::fetch_fits` meets its contract. Assumes nothing.
 use native.Mathlib.Omega.{arith}
 use borrow.Author.Needs.{needs}
 use borrow.Author.Tests.{le-leb, lt-leb}

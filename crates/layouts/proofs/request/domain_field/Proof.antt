@@ -1,3 +1,4 @@
+-- `layouts::request::domain_field` meets its contract. Assumes nothing.
 use borrow.Author.Needs.{needs}
 use Rattle.layouts.proofs.request.domain_field.Statement.{statement}
 use Rattle.layouts.proofs.request.domain_field.Tie as tie

@@ -1,3 +1,4 @@
+-- `layouts::request::map_fields` meets its contract. Assumes nothing.
 use borrow.Author.Needs.{needs}
 use Rattle.layouts.proofs.request.map_fields.Statement.{statement}
 use Rattle.layouts.proofs.request.map_fields.Tie as tie

@@ -1,3 +1,4 @@
+-- `layouts::request::unmap_fields` meets its contract. Assumes nothing.
 use borrow.Author.Needs.{needs}
 use Rattle.layouts.proofs.request.unmap_fields.Statement.{statement}
 use Rattle.layouts.proofs.request.unmap_fields.Tie as tie

@@ -1,3 +1,4 @@
+-- `printing::placing::has_room` meets its contract. Assumes nothing.
 use native.Mathlib.Omega.{arith}
 use borrow.Author.Tests.{lt-leb, le-leb, leb-true}
 use Prim.Native.Nat.{_+_, _-_}
