@@ -24,7 +24,7 @@ use Rattle.rules.specs.declared.Fault.{Fault}
 use Rattle.rules.specs.declared.Answer.{Answer}
 use Rattle.rules.specs.declared.Answer.the-variants.{Done, Served, Through, Fetched, NoSuchGuest, Unsound, UnknownType, WrongLength, BadConfiguration, UnknownEndpoint, Unattached, Unmapped}
 use Rattle.rules.proofs.Answer as answer
-use Rattle.rules.specs.Sizes.{domainSpan}
+use Rattle.rules.specs.Sizes.{maxFaults, domainSpan}
 use Rattle.rules.specs.State.{faultAt}
 use Rattle.rules.specs.Access.{permits, lookup, faultOf, faultBytes, bytesOf}
 use Rattle.rules.proofs.Access.{permits-covers}
@@ -148,6 +148,6 @@ module _ (f : ℕ → Fault) (d : List ℕ) where
       let after : drop (24 * j + 24) (A ++ drop (24 * j) d) ≡ drop (24 * j + 24) d = rw (sym la, drop-append-add A (drop (length A) d) 24, drop-drop 24 (length A) d) in
       rw (was, take-at A (drop (24 * j) d) (24 * j) la, post-is (24 * j) (24 * j + 24) (A ++ drop (24 * j) d) (omega arith), after, next, m) (sym (append-assoc A p (drop (24 * j + 24) d)))
 
-pub written-all : (s : State) (g : Guest) (n j : ℕ) (d b : List ℕ) → b ≡ written (λ k. faultAt s (16 * g .0 + k)) j d → j ≡ n → b ≡ fetchBytes s g n d
+pub written-all : (s : State) (g : Guest) (n j : ℕ) (d b : List ℕ) → b ≡ written (λ k. faultAt s (maxFaults * g .0 + k)) j d → j ≡ n → b ≡ fetchBytes s g n d
 unfolding fetchBytes
 written-all s g n j d b e q = rw (sym q) e

@@ -21,7 +21,7 @@ use Rattle.rules.specs.declared.State.{State}
 use Rattle.rules.specs.declared.Mapping.{Mapping}
 use Rattle.rules.specs.declared.Answer.{Answer}
 use Rattle.rules.specs.declared.Answer.the-variants.{Done, Served, Fetched, NoSuchGuest, Unsound}
-use Rattle.rules.specs.Sizes.{faultSize, maxRecords}
+use Rattle.rules.specs.Sizes.{maxGuests, maxEndpoints, maxRecords, maxFaults, faultSize}
 use Rattle.rules.specs.Configuration.{first, last, good}
 use Rattle.rules.specs.Table.{records}
 use Rattle.rules.specs.State.{World, Device, configOf, read}
@@ -126,19 +126,19 @@ module _ (s : State) (ws : List ℕ) (h : sound (device s ws) ≡ true) (k : Sha
   d : Device
   d = device s ws
 
-  pub listed-fits : s .listed ≤ 32
+  pub listed-fits : s .listed ≤ maxEndpoints
   listed-fits = small-count (device s ws) h k
 
-  pub live-fits : s .live ≤ 256
+  pub live-fits : s .live ≤ maxRecords
   live-fits = leb-true (s .live) maxRecords (tests (device s ws) h .1 .1 .1 .0)
 
-  pub few-guests : s .settings .guests ≤ 4
+  pub few-guests : s .settings .guests ≤ maxGuests
   few-guests = unfold configOf in sound-good (device s ws) h .guests .1
 
-  -- a log's count is at most 16, and what is fetched fits
-  pub count-fits : (g : Guest) → g .0 < s .settings .guests → (b : List ℕ) (n : ℕ) → n ≡ fetchCount s g (length b) → (n ≤ 16) × (24 * n ≤ length b)
+  -- a log's count is within its limit, and what is fetched fits
+  pub count-fits : (g : Guest) → g .0 < s .settings .guests → (b : List ℕ) (n : ℕ) → n ≡ fetchCount s g (length b) → (n ≤ maxFaults) × (faultSize * n ≤ length b)
   count-fits g l b n e =
-      let held = leb-true (getD (s .logged) (g .0) 0) 16 (below-at (configOf s .settings .guests) (λ i. leb (getD (s .logged) i 0) 16) (g .0) (tests (device s ws) h .1 .1 .1 .1 .1 .1 .1 .1 .1 .1 .0) (unfold configOf in l)) in
+      let held = leb-true (getD (s .logged) (g .0) 0) maxFaults (below-at (configOf s .settings .guests) (λ i. leb (getD (s .logged) i 0) maxFaults) (g .0) (tests (device s ws) h .1 .1 .1 .1 .1 .1 .1 .1 .1 .1 .0) (unfold configOf in l)) in
       let a = min-le-left (getD (s .logged) (g .0) 0) (length b / faultSize) in
       let c = min-le-right (getD (s .logged) (g .0) 0) (length b / faultSize) in
       (omega (arith, held, a, e), omega (arith, c, e))

@@ -11,6 +11,7 @@ use lib.ListN.{length, take}
 use borrow.Author.Tests.{leb-true, leb-false, ne-eqb, lt-ltb, le-ltb, le-leb, lt-leb}
 use Rattle.laws.specs.Lists.{any?}
 use Rattle.laws.proofs.Tests.{or-left, or-right, or-none}
+use Rattle.rules.specs.Sizes.{maxGuests}
 use Rattle.rules.specs.declared.Guest.{Guest}
 use Rattle.rules.specs.declared.Domain.{Domain}
 use Rattle.rules.specs.declared.Settings.{Settings}
@@ -77,11 +78,11 @@ module _ (s : State) (ws : List ℕ) (g : Guest) (d : Domain) where
 
   -- HANDLERS
 
-  pub map-unplaced : (r : Mapping) → (ltb (g .0) 4 && ltb (s .live) topAddress) ≡ false → worked 0 (device s ws) ≡ mapPlaced (device s ws) g d r
+  pub map-unplaced : (r : Mapping) → (ltb (g .0) maxGuests && ltb (s .live) topAddress) ≡ false → worked 0 (device s ws) ≡ mapPlaced (device s ws) g d r
   unfolding mapPlaced
   map-unplaced r h = rw h
 
-  pub map-placed : (r : Mapping) → (ltb (g .0) 4 && ltb (s .live) topAddress) ≡ true → mapPlaced (device s ws) g d r ≡ mapFlat (device s ws) g d r
+  pub map-placed : (r : Mapping) → (ltb (g .0) maxGuests && ltb (s .live) topAddress) ≡ true → mapPlaced (device s ws) g d r ≡ mapFlat (device s ws) g d r
   unfolding mapPlaced
   map-placed r h = rw h
 

@@ -15,7 +15,7 @@ use Rattle.laws.proofs.Tests.{both-left, both-right, or-cases, Each, opened}
 use Rattle.laws.proofs.Tables.{below-at, length-tab, getD-tab, tab-is, all-at, replicate-is}
 use Rattle.rules.specs.declared.State.{State}
 use Rattle.rules.specs.declared.Fault.{Fault}
-use Rattle.rules.specs.Sizes.{maxGuests, maxEndpoints, maxFaults, faultPlaces, recordWords, tableWords}
+use Rattle.rules.specs.Sizes.{maxGuests, maxEndpoints, maxRecords, recordWords, tableWords, maxFaults, faultPlaces}
 use Rattle.rules.specs.Configuration.{share, first, last}
 use Rattle.rules.specs.Table.{records, words, tableOf}
 use Rattle.rules.specs.State.{Log, World, Device, noFault, noLog, configOf, attachment, attachmentAt, faultAt, logAt, read, trimmed, flagOf, numberOf, placed, stateOf}
@@ -130,7 +130,7 @@ module _ (d : Device) (h : sound d ≡ true) (k : Shaped (d .state)) where
   faults-back q l e f = tab-is faultPlaces _ l 0 e (λ i m. ap q (placed-back i m) ∙ f i)
 
   live-back : length (take (s .live) (records (d .table))) ≡ s .live
-  live-back = length-take-le (s .live) (records (d .table)) (rw (length-records (d .table), eqb-true (length (d .table)) tableWords (tests d h .0)) (leb-true (s .live) 256 (tests d h .1 .1 .1 .0)))
+  live-back = length-take-le (s .live) (records (d .table)) (rw (length-records (d .table), eqb-true (length (d .table)) tableWords (tests d h .0)) (leb-true (s .live) maxRecords (tests d h .1 .1 .1 .0)))
 
   -- the state and the table written back are those that were read
   pub state-back : stateOf (configOf (d .state)) (read d) ≡ d .state
@@ -166,4 +166,4 @@ module _ (d : Device) (h : sound d ≡ true) (k : Shaped (d .state)) where
   pub table-back : tableOf (read d .records) ≡ d .table
   table-back =
       unfold tableOf read in
-      (rw live-back (ap (λ (z : List ℕ). words (take (s .live) (records (d .table))) ++ z) (sym zeros-after) ∙ words-split (s .live) (d .table) (omega (arith, eqb-true (length (d .table)) tableWords (tests d h .0), leb-true (s .live) 256 (tests d h .1 .1 .1 .0)))))
+      (rw live-back (ap (λ (z : List ℕ). words (take (s .live) (records (d .table))) ++ z) (sym zeros-after) ∙ words-split (s .live) (d .table) (omega (arith, eqb-true (length (d .table)) tableWords (tests d h .0), leb-true (s .live) maxRecords (tests d h .1 .1 .1 .0)))))

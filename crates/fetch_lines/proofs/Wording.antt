@@ -9,6 +9,7 @@ use lib.Dec.{leb}
 use lib.ListN.{length, getD, take, drop}
 use lib.Seq.{take-suc, drop-drop}
 use Rattle.laws.proofs.Tests.{both-left, both-right}
+use Rattle.rules.specs.Sizes.{maxFaults, faultSize}
 use Rattle.rules.specs.declared.Answer.{Answer}
 use Rattle.rules.specs.Answers.{number, fetchedCount}
 use Rattle.printing.specs.Text.{newline, digit, decimal, hexBytes}
@@ -31,13 +32,13 @@ module _ (a : Answer) where
     unfolding fetchLines
     fetch-refused b = rw (ne-eqb (number a) 0 h)
 
-  pub fits : (b : List ℕ) → fetchFits a b ≡ true → (fetchedCount a ≤ 16) × (24 * fetchedCount a ≤ length b)
+  pub fits : (b : List ℕ) → fetchFits a b ≡ true → (fetchedCount a ≤ maxFaults) × (faultSize * fetchedCount a ≤ length b)
   unfolding fetchFits
   fits b e =
       let n = fetchedCount a in
-      let few = leb n 16 in
-      let whole = leb (24 * n) (length b) in
-      (leb-true n 16 (both-left few whole e), leb-true (24 * n) (length b) (both-right few whole e))
+      let few = leb n maxFaults in
+      let whole = leb (faultSize * n) (length b) in
+      (leb-true n maxFaults (both-left few whole e), leb-true (faultSize * n) (length b) (both-right few whole e))
 
 -- the first of the records that are left
 pub records-next : (n i : ℕ) (b : List ℕ) → i < n → recordLines (n - i) (drop (24 * i) b) ≡ (hexBytes (take 24 (drop (24 * i) b)) ++ (newline ∷ [])) ++ recordLines (n - (i + 1)) (drop (24 * (i + 1)) b)

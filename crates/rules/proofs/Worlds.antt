@@ -16,7 +16,7 @@ use Rattle.laws.proofs.Owners.{pick-weave, pick-weave-other, length-weave, leng
 use Rattle.rules.specs.declared.Guest.{Guest}
 use Rattle.rules.specs.declared.Endpoint.{Endpoint}
 use Rattle.rules.specs.declared.Answer.the-variants.{NoSuchGuest, UnknownEndpoint}
-use Rattle.rules.specs.Sizes.{domainSpan}
+use Rattle.rules.specs.Sizes.{maxGuests, maxEndpoints, domainSpan}
 use Rattle.rules.specs.Configuration.{Config, settingsTests, listTests, goodSettings, goodLists, good}
 use Rattle.rules.specs.Table.{guestOf, before}
 use Rattle.rules.specs.State.{Attachment, World, noLog, start}
@@ -30,10 +30,10 @@ use Rattle.rules.proofs.Parts.{Facts, Named, rule-facts, inRange, logOk
 -- THE CONFIGURATION'S FACTS
 
 pub record Good (c : Config) : Type 0 where
-  pub guests : (1 ≤ c .settings .guests) × (c .settings .guests ≤ 4)
+  pub guests : (1 ≤ c .settings .guests) × (c .settings .guests ≤ maxGuests)
   pub narrow : c .settings .domains .end < domainSpan
   pub sizes : length (c .endpoints) ≡ length (c .owners)
-  pub few : length (c .endpoints) ≤ 32
+  pub few : length (c .endpoints) ≤ maxEndpoints
   pub owners : all? (λ o. ltb o (c .settings .guests)) (c .owners) ≡ true
 
 pub good-facts : (c : Config) → good c ≡ true → Good c

@@ -4,10 +4,11 @@ use borrow.Author.Needs.{needs}
 use Prim.Native.Nat.{_≤_}
 use mathlib.Core.Path.{_≡_}
 use lib.ListN.{length, List·getD-eq-default}
+use Rattle.rules.specs.Sizes.{maxEndpoints}
 use Rattle.endpoints.proofs.is_in.Statement.{statement}
 use Rattle.endpoints.proofs.is_in.Tie as tie
 
-attached-size : (c : tie.Start) → length (c .args .t1 .attached) ≡ 32
+attached-size : (c : tie.Start) → length (c .args .t1 .attached) ≡ maxEndpoints
 attached-size c = search needs
 
 returns : tie.Need-returns

@@ -9,7 +9,7 @@ use borrow.Author.Tests.{not-true, not-false, leb-true}
 use Rattle.printing.specs.Text.{newline, decimal}
 use Rattle.plain_lines.specs.Plain.{numberLine}
 use Rattle.fetch_lines.specs.Lines.{fetchRoom, fetchLines, fetchFits, recordLines}
-use Rattle.printing.specs.Placing.{written, writtenCount}
+use Rattle.printing.specs.Placing.{lineRoom, written, writtenCount}
 use Rattle.printing.proofs.Places.{Put, put-then, placed-room, placed-next, put-named, put-whole, put-none, written-named, written-within, put-tested}
 use Rattle.fetch_lines.proofs.Wording.{fetchHead, fetch-given, fetch-refused, fits}
 use Rattle.fetch_lines.proofs.put_fetch.Statement.{statement}
@@ -42,7 +42,7 @@ refused c =
     (sym (s .before .fetch-fits .ensures) ∙ not-false (s .before .fetch-fits .result) (s .if1 .left))
     (written-named fetchRoom (a .at) lines (numberLine 70 (a .a)) (a .out .now)
     (fetch-refused (a .a) (λ h. t .if3 .taken (t .before .number-of .ensures ∙ h)) (a .buffer .now))
-    (written-within 64 fetchRoom (a .at) (numberLine 70 (a .a)) (a .out .now) (omega arith) (leb-true (a .at + fetchRoom) (length (a .out .now)) (sym (r .ensures) ∙ not-false (r .result) (t .before .before .if2 .left))) (p .put-number .ensures)))
+    (written-within lineRoom fetchRoom (a .at) (numberLine 70 (a .a)) (a .out .now) (omega arith) (leb-true (a .at + fetchRoom) (length (a .out .now)) (sym (r .ensures) ∙ not-false (r .result) (t .before .before .if2 .left))) (p .put-number .ensures)))
 
 records-requires : tie.Need-put-records-requires
 records-requires c κs =

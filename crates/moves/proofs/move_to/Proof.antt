@@ -4,11 +4,12 @@ use borrow.Author.Needs.{needs}
 use Prim.Native.Nat.{_≤_}
 use mathlib.Core.Path.{_≡_}
 use lib.ListN.{length, List·getD-eq-default}
+use Rattle.rules.specs.Sizes.{maxEndpoints}
 use Rattle.effects.proofs.Turns.{moved-new, moved-here, moved-over}
 use Rattle.moves.proofs.move_to.Statement.{statement}
 use Rattle.moves.proofs.move_to.Tie as tie
 
-attached-size : (c : tie.Start) → length (c .args .t1 .attached) ≡ 32
+attached-size : (c : tie.Start) → length (c .args .t1 .attached) ≡ maxEndpoints
 attached-size c = search needs
 
 returns : tie.Need-returns

@@ -3,6 +3,7 @@ use mathlib.Core.Path.{sym, _∙_}
 use native.Mathlib.Omega.{arith}
 use borrow.Author.Needs.{needs}
 use borrow.Author.Tests.{not-true, not-false, leb-true}
+use Rattle.printing.specs.Placing.{lineRoom}
 use Rattle.plain_lines.specs.Plain.{endLine}
 use Rattle.printing.proofs.Places.{placed-room, put-whole, put-none}
 use Rattle.plain_lines.proofs.put_end.Statement.{statement}
@@ -12,7 +13,7 @@ none : tie.Need-returns
 none c =
     let r = c .before .has-room in
     let a = c .before .before .before .args in
-    put-none 64 (a .at) endLine (a .out .now) (sym (r .ensures) ∙ not-true (r .result) (c .if1 .taken))
+    put-none lineRoom (a .at) endLine (a .out .now) (sym (r .ensures) ∙ not-true (r .result) (c .if1 .taken))
 
 whole : tie.Need-returns-2
 whole c =
@@ -21,7 +22,7 @@ whole c =
     let r = t .before .has-room in
     let a = t .before .before .before .args in
     let yes = sym (r .ensures) ∙ not-false (r .result) (t .if1 .left) in
-    put-whole 64 (a .at) endLine (a .out .now) yes (placed-room 2 (a .at) endLine (a .out .now) (omega (arith, leb-true, yes)) (p .put-bytes .ensures))
+    put-whole lineRoom (a .at) endLine (a .out .now) yes (placed-room 2 (a .at) endLine (a .out .now) (omega (arith, leb-true, yes)) (p .put-bytes .ensures))
 
 pub put-end-spec : {M : Type 1} → statement M
 put-end-spec =

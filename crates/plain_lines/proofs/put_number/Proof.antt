@@ -4,6 +4,7 @@ use native.Mathlib.Omega.{arith}
 use borrow.Author.Needs.{needs}
 use borrow.Author.Tests.{not-true, not-false, leb-true}
 use lib.ListN.{length}
+use Rattle.printing.specs.Placing.{lineRoom}
 use Rattle.plain_lines.specs.Plain.{numberLine}
 use Rattle.printing.proofs.Places.{placed-room, put-whole, put-none}
 use Rattle.plain_lines.proofs.put_number.Statement.{statement}
@@ -13,7 +14,7 @@ none : tie.Need-returns
 none c =
     let r = c .before .has-room in
     let a = c .before .before .before .args in
-    put-none 64 (a .at) (numberLine (a .letter) (a .a)) (a .out .now) (sym (r .ensures) ∙ not-true (r .result) (c .if1 .taken))
+    put-none lineRoom (a .at) (numberLine (a .letter) (a .a)) (a .out .now) (sym (r .ensures) ∙ not-true (r .result) (c .if1 .taken))
 
 whole : tie.Need-returns-2
 whole c =
@@ -24,7 +25,7 @@ whole c =
     let a = t .before .before .before .args in
     let line = n .number-line .result in
     let yes = sym (r .ensures) ∙ not-false (r .result) (t .if1 .left) in
-    put-whole 64 (a .at) (numberLine (a .letter) (a .a)) (a .out .now) yes
+    put-whole lineRoom (a .at) (numberLine (a .letter) (a .a)) (a .out .now) yes
     (rw (n .number-line .ensures) at (placed-room (length line) (a .at) line (a .out .now) (omega (arith, leb-true, yes)) (p .put-bytes .ensures)))
 
 pub put-number-spec : {M : Type 1} → statement M

@@ -4,6 +4,7 @@ use mathlib.Core.Path.{_∙_}
 use lib.Dec.{ltb}
 use borrow.Author.Tests.{lt-ltb}
 use Rattle.laws.proofs.Tests.{both}
+use Rattle.rules.specs.Sizes.{maxGuests}
 use Rattle.effects.specs.Flat.{device, topAddress}
 use Rattle.effects.specs.Outcome.{outcome}
 use Rattle.effects.proofs.Cases.{handled-refused, handled-attach, handled-detach, handled-map, handled-unmap}
@@ -37,7 +38,7 @@ returns-4 c =
     let h = c .before .before .map in
     let q = c .before .before .before .before .before .before .q3 .given in
     let k = c .before .before .before .before .key-of in
-    let p = both (ltb (a .g .0) 4) _ (lt-ltb (a .g .0) 4 (st .pre .0)) (lt-ltb (a .s .live) topAddress (st .pre .1)) in
+    let p = both (ltb (a .g .0) maxGuests) _ (lt-ltb (a .g .0) maxGuests (st .pre .0)) (lt-ltb (a .s .live) topAddress (st .pre .1)) in
     handled-map (device (a .s) (a .t .now)) (a .g) (a .q) (outcome (h .result) (h .last .1 .0)) (q .0 .0) (q .0 .1 .0) (k .result) (q .1) (k .ensures)
     (h .ensures ∙ map-placed (a .s) (a .t .now) (a .g) (q .0 .0) _ p)
 

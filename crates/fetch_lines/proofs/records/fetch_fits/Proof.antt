@@ -2,6 +2,7 @@
 use native.Mathlib.Omega.{arith}
 use borrow.Author.Needs.{needs}
 use borrow.Author.Tests.{le-leb, lt-leb}
+use Rattle.rules.specs.Sizes.{maxFaults}
 use Rattle.rules.specs.Answers.{fetchedCount}
 use Rattle.fetch_lines.specs.Lines.{fetchFits}
 use Rattle.fetch_lines.proofs.records.fetch_fits.Statement.{statement}
@@ -9,11 +10,11 @@ use Rattle.fetch_lines.proofs.records.fetch_fits.Tie as tie
 
 many : tie.Need-returns
 unfolding fetchFits
-many c = rw (lt-leb (fetchedCount (c .before .before .before .args .a)) 16 (omega arith))
+many c = rw (lt-leb (fetchedCount (c .before .before .before .args .a)) maxFaults (omega arith))
 
 few : tie.Need-returns-2
 unfolding fetchFits
-few c = rw (le-leb (fetchedCount (c .before .before .before .args .a)) 16 (omega arith), c .before .count-of .ensures)
+few c = rw (le-leb (fetchedCount (c .before .before .before .args .a)) maxFaults (omega arith), c .before .count-of .ensures)
 
 pub fetch-fits-spec : {M : Type 1} → statement M
 fetch-fits-spec = tie.close (tie.spec (λ c κs. search needs) many (λ c. search needs) few)

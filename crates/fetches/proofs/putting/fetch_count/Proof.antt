@@ -4,10 +4,11 @@ use borrow.Author.Needs.{needs}
 use Prim.Native.Nat.{_≤_}
 use mathlib.Core.Path.{_≡_}
 use lib.ListN.{length, List·getD-eq-default}
+use Rattle.rules.specs.Sizes.{maxGuests}
 use Rattle.fetches.proofs.putting.fetch_count.Statement.{statement}
 use Rattle.fetches.proofs.putting.fetch_count.Tie as tie
 
-size : (c : tie.Start) → length (c .args .t1 .logged) ≡ 4
+size : (c : tie.Start) → length (c .args .t1 .logged) ≡ maxGuests
 size c = search needs
 
 returns : tie.Need-returns

@@ -5,6 +5,7 @@ use borrow.Author.Needs.{needs}
 use Prim.Native.Nat.{_≤_, _+_, _-_, _*_}
 use mathlib.Core.Path.{_≡_, refl}
 use lib.ListN.{length}
+use Rattle.rules.specs.Sizes.{maxFaults}
 use Rattle.rules.specs.State.{faultAt}
 use Rattle.effects.proofs.Decided.{written, written-none, written-next, written-all}
 use Rattle.fetches.proofs.putting.put_faults.Statement.{statement}
@@ -17,7 +18,7 @@ abbrev μ-loop : tie.MeasureT-loop
 μ-loop n buffer₀ s first j₀ buffer j = n - j
 
 loop-holds : tie.Need-loop-holds Inv-loop μ-loop
-loop-holds c = let a = c .before .before .args in (omega arith, refl, written-none (λ k. faultAt (a .t1) (16 * a .g .0 + k)) (a .buffer .now))
+loop-holds c = let a = c .before .before .args in (omega arith, refl, written-none (λ k. faultAt (a .t1) (maxFaults * a .g .0 + k)) (a .buffer .now))
 
 loop-again : tie.Need-loop-again Inv-loop μ-loop
 loop-again c =
@@ -26,7 +27,7 @@ loop-again c =
     let a = s .before .before .before .args in (
       omega arith,
       omega arith,
-      written-next (λ k. faultAt (a .t1) (16 * a .g .0 + k)) (a .buffer .now) (s .loop .j) (s .loop .buffer) (p .last .0) (s .loop .inv .2) (omega arith) (p .ensures),
+      written-next (λ k. faultAt (a .t1) (maxFaults * a .g .0 + k)) (a .buffer .now) (s .loop .j) (s .loop .buffer) (p .last .0) (s .loop .inv .2) (omega arith) (p .ensures),
     )
 
 returns : tie.Need-returns Inv-loop μ-loop

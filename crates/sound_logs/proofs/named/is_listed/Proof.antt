@@ -7,6 +7,7 @@ use mathlib.Core.Bool.{_||_, or-false}
 use lib.Dec.{eqb}
 use lib.ListN.{drop}
 use Rattle.laws.specs.Lists.{any?, pickBy}
+use Rattle.rules.specs.Sizes.{maxEndpoints}
 use Rattle.rules.specs.Handlers.{listed}
 use Rattle.laws.proofs.Owned.{owned-on, owned-end}
 use Rattle.sound_logs.proofs.named.is_listed.Statement.{statement}
@@ -14,11 +15,11 @@ use Rattle.sound_logs.proofs.named.is_listed.Tie as tie
 
 abbrev Inv-loop : tie.InvT-loop
 Inv-loop endpoints owners g e found₀ j₀ found j =
-    (j ≤ 32)
+    (j ≤ maxEndpoints)
     × (any? (eqb (e .0)) (pickBy g owners endpoints) ≡ (found || any? (eqb (e .0)) (pickBy g (drop j owners) (drop j endpoints))))
 
 abbrev μ-loop : tie.MeasureT-loop
-μ-loop endpoints owners g e found₀ j₀ found j = 32 - j
+μ-loop endpoints owners g e found₀ j₀ found j = maxEndpoints - j
 
 loop-again : tie.Need-loop-again Inv-loop μ-loop
 loop-again c =

@@ -4,16 +4,17 @@ use borrow.Author.Needs.{needs}
 use Prim.Native.Nat.{_≤_, _-_}
 use mathlib.Core.Path.{_≡_, refl}
 use lib.ListN.{length}
+use Rattle.rules.specs.Sizes.{maxEndpoints}
 use Rattle.state.proofs.Rewriting.{Written, written-none, written-store, written-all}
 use Rattle.sound_logs.specs.Faults.{ownerAmong}
 use Rattle.sound_logs.proofs.named.owners_among.Statement.{statement}
 use Rattle.sound_logs.proofs.named.owners_among.Tie as tie
 
 abbrev Inv-loop : tie.InvT-loop
-Inv-loop n owners out₀ j₀ out j = (j ≤ 32) × (length out₀ ≡ 32) × Written (ownerAmong n owners) out₀ j out
+Inv-loop n owners out₀ j₀ out j = (j ≤ maxEndpoints) × (length out₀ ≡ maxEndpoints) × Written (ownerAmong n owners) out₀ j out
 
 abbrev μ-loop : tie.MeasureT-loop
-μ-loop n owners out₀ j₀ out j = 32 - j
+μ-loop n owners out₀ j₀ out j = maxEndpoints - j
 
 loop-holds : tie.Need-loop-holds Inv-loop μ-loop
 loop-holds c = (omega arith, search needs, written-none _ _)
@@ -29,7 +30,7 @@ returns : tie.Need-returns Inv-loop μ-loop
 returns c =
     let s = c .before in
     let a = s .before .before .args in
-    written-all (ownerAmong (a .n) (a .owners .now)) _ 32 (s .loop .j) (s .loop .out) refl (omega arith) (s .loop .inv .2)
+    written-all (ownerAmong (a .n) (a .owners .now)) _ maxEndpoints (s .loop .j) (s .loop .out) refl (omega arith) (s .loop .inv .2)
 
 pub owners-among-spec : {M : Type 1} → statement M
 owners-among-spec =
