@@ -1,6 +1,6 @@
 -- Whether a record goes on with a domain, and how many do.
 use Prim.Native.Nat.{ℕ, suc, _+_, _<_, _≤_}
-use mathlib.Core.Path.{_≡_, ap, _∙_}
+use mathlib.Core.Path.{_≡_, ap}
 use mathlib.Core.Bool.{Bool, true, false, cond, _&&_}
 use mathlib.Core.List.{List, [], _∷_}
 use native.Mathlib.Omega.{arith}
@@ -16,12 +16,9 @@ module _ (l : List Mapping) (n i : ℕ) (x : Mapping) (h : i < length (take n l)
   pub now-at : drop i (take n l) ≡ x ∷ drop (i + 1) (take n l)
   now-at = rw e (to-go noMapping l n i h)
 
-  module _ (form : Mapping → Bool) (key end : ℕ) where
-    pub run-stops : (eqb (x .key) key && (ltb end (x .start) && form x)) ≡ false → run form key end (drop i (take n l)) ≡ 0
-    run-stops t = ap (run form key end) now-at ∙ rw t
-
-    pub run-goes : (eqb (x .key) key && (ltb end (x .start) && form x)) ≡ true → run form key end (drop i (take n l)) ≡ suc (run form key (x .end) (drop (i + 1) (take n l)))
-    run-goes t = ap (run form key end) now-at ∙ rw t
+  -- it goes on, and so do those after it, or none does
+  pub run-at : (form : Mapping → Bool) (key end : ℕ) → run form key end (drop i (take n l)) ≡ cond (eqb (x .key) key && (ltb end (x .start) && form x)) (suc (run form key (x .end) (drop (i + 1) (take n l)))) 0
+  run-at form key end = ap (run form key end) now-at
 
 -- no more go on than there are
 pub run-within : (form : Mapping → Bool) (key end : ℕ) (l : List Mapping) → run form key end l ≤ length l

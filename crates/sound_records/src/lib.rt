@@ -22,7 +22,9 @@ use rules::sizes::MAX_GUESTS;
 use rules::sizes::RECORD_WORDS;
 use sound_places::shares_kept;
 
-// The same for numbers of guests, endpoints and records that have places, and a mask that has a lowest bit.
+// The pass over the first live records, domain by domain: the first record of each is tested beside the domain before it, those
+// that go on with the domain each beside the record before it, and the guests' records are counted. The guests, the endpoints
+// and the records are as many as have places, and the mask has a lowest bit.
 fn placed_good<'a>(
     settings: Settings,
     listed: usize,

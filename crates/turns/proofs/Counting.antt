@@ -4,12 +4,10 @@ use mathlib.Core.Path.{_≡_, refl, sym, ap}
 use mathlib.Core.Bool.{true, not}
 use mathlib.Core.List.{List, _∷_}
 use native.Mathlib.Omega.{arith}
-use lib.Dec.{leb}
 use lib.ListN.{length, take, replicate}
 use borrow.Author.Tests.{le-leb}
 use Rattle.laws.proofs.Tests.{either-way}
 use Rattle.rules.specs.declared.Guest.{Guest}
-use Rattle.rules.specs.declared.Answer.{Answer}
 use Rattle.rules.specs.Sizes.{maxFaults, faultSize}
 use Rattle.rules.specs.State.{Device, configOf}
 use Rattle.rules.specs.Answers.{fetchedCount}
@@ -17,7 +15,7 @@ use Rattle.rules.specs.Sound.{sound}
 use Rattle.effects.specs.declared.Given.{Given}
 use Rattle.effects.specs.Checked.{replied}
 use Rattle.fetch_lines.specs.Lines.{fetchFits}
-use Rattle.rules.specs.Device.{Reply, step, worked, work, rule, fetched, caller, numbered, fetch-for}
+use Rattle.rules.specs.Device.{Reply, step, worked, work, rule, caller, numbered, fetch-for}
 
 module _ (d : Device) (g : Guest) (b : List ℕ) where
   abbrev Few : Reply × Device → Type 0
@@ -30,17 +28,21 @@ module _ (d : Device) (g : Guest) (b : List ℕ) where
       either-way Few (not (numbered (configOf (d .state)) (fetch-for g b))) (λ _. omega arith) (λ _.
       either-way Few (not (sound d)) (λ _. omega arith) (λ _. unfold worked caller work rule in omega arith))
 
-  -- so its lines fit, where the buffer holds 16 records at most
+  -- so its lines fit, where the buffer holds no more records than a fetch may ask for
   pub fetch-fits :
       (given : Given) (buffer table : List ℕ)
       → replied given buffer table ≡ step d (fetch-for g b)
       → length buffer ≡ length b
-      → length b ≤ 384
+      → length b ≤ faultSize * maxFaults
       → fetchFits (given .answer) buffer ≡ true
   unfolding fetchFits
   fetch-fits given buffer table e l h =
       let f : fetchedCount (given .answer) ≤ length b / faultSize = rw (sym e) at fetches-few in
       rw (le-leb (fetchedCount (given .answer)) maxFaults (omega arith), le-leb (faultSize * fetchedCount (given .answer)) (length buffer) (omega arith))
+
+-- the bytes of n records, no more than may be asked for
+pub few-bytes : {n : ℕ} → n ≤ maxFaults → faultSize * n ≤ faultSize * maxFaults
+few-bytes h = omega arith
 
 -- the first k of n zeros
 pub take-zeros : (k n : ℕ) → k ≤ n → take {A = ℕ} k (replicate n 0) ≡ replicate k 0

@@ -62,7 +62,7 @@ module _ (p : Player) (t s : List ℕ) where
   unfolding turn
   turn-reads = reads-well (front s) (front-fits s)
 
--- a fetch asks for 16 records at most
+-- a fetch asks for no more records than a log holds
 abbrev pub Most : Item → Type 0
 Most Cut = Unit {0}
 Most Wrong = Unit {0}
@@ -72,7 +72,7 @@ Most (Start f) = Unit {0}
 Most (Request g) = Unit {0}
 Most (Access e a k) = Unit {0}
 Most (Reset g) = Unit {0}
-Most (Fetch g n) = n ≤ 16
+Most (Fetch g n) = n ≤ maxFaults
 
 pub asks-few : (s : List ℕ) → Most (front s)
 unfolding front taken

@@ -1,14 +1,17 @@
 // Records that start the device or call it.
+ghost use mathlib.Core.Path.{_≡_};
+ghost use mathlib.Core.Bool.{false};
 ghost use Prim.Native.Nat.{_+_, _*_, _≤_};
 ghost use lib.ListN.{length};
 ghost use Rattle.items.specs.declared.Item.the-variants as item;
-ghost use Rattle.items.specs.Items.{Fits};
+ghost use Rattle.items.specs.Items.{Fits, sizeOf};
 ghost use Rattle.rules.specs.Sizes.{maxFaults, faultSize};
 ghost use Rattle.rules.specs.Device.{step, fetch-for};
 ghost use Rattle.effects.specs.Flat.{device};
 ghost use Rattle.fetch_lines.specs.Lines.{fetchRoom};
-ghost use Rattle.playing.specs.Turns.{turnOf, fetchedTurn};
-ghost use Rattle.playing.specs.Telling.{Tells};
+ghost use Rattle.playing.specs.Turns.{running, turnOf, fetchedTurn};
+ghost use Rattle.playing.specs.Telling.{turned, Tells};
+use effects::Given;
 use fetch_lines::put_fetch;
 use items::StartFields;
 use lines::put_access;
@@ -23,6 +26,13 @@ use rules::Guest;
 use rules::State;
 use rules::sizes::FAULT_SIZE;
 use rules::sizes::MAX_FAULTS;
+
+// A call has given this, and k bytes are printed.
+fn finished(given: Given, s: &[u8], k: usize) -> Turned
+    ensures { λ r. ⌜ r ≡ turned (running (given .state)) (sizeOf (now (s .entry))) k false ⌝ }
+{
+    worked(true, given.state, items::size_of(s), k)
+}
 
 // The letters of a start's and a reset's line.
 const LETTER_S: u8 = 83;
@@ -44,12 +54,10 @@ pub(crate) fn start(
     if p.started {
         return idle(p, true);
     }
-    let state = p.state;
-    let given = naming::start(state, t, f);
+    let given = naming::start(p.state, t, f);
     let answer = given.answer;
-    let next = given.state;
     let k = plain_lines::put_number(out, at, LETTER_S, answer);
-    worked(true, next, items::size_of(s), k)
+    finished(given, s, k)
 }
 
 // A request, with a writable part of four bytes.
@@ -69,12 +77,10 @@ pub(crate) fn request(
     }
     let n = items::size_of(s);
     let mut writable: [u8; 4] = [0; 4];
-    let state = p.state;
-    let given = requests::request(state, t, g, &s[2..n], &mut writable);
+    let given = requests::request(p.state, t, g, &s[2..n], &mut writable);
     let answer = given.answer;
-    let next = given.state;
     let k = put_request(out, at, answer, &writable);
-    worked(true, next, n, k)
+    finished(given, s, k)
 }
 
 // An access.
@@ -94,12 +100,10 @@ pub(crate) fn access(
     if !p.started {
         return idle(p, true);
     }
-    let state = p.state;
-    let given = accesses::access(state, t, e, address, kind);
+    let given = accesses::access(p.state, t, e, address, kind);
     let answer = given.answer;
-    let next = given.state;
     let k = put_access(out, at, answer);
-    worked(true, next, items::size_of(s), k)
+    finished(given, s, k)
 }
 
 // A reset.
@@ -117,12 +121,10 @@ pub(crate) fn reset(
     if !p.started {
         return idle(p, true);
     }
-    let state = p.state;
-    let given = requests::resetting::reset(state, t, g);
+    let given = requests::resetting::reset(p.state, t, g);
     let answer = given.answer;
-    let next = given.state;
     let k = plain_lines::put_number(out, at, LETTER_Z, answer);
-    worked(true, next, items::size_of(s), k)
+    finished(given, s, k)
 }
 
 // The bytes of as many fault records as a fetch may ask for.
@@ -143,9 +145,8 @@ fn fetch_into(
 {
     let given = fetches::fetch(state, t, g, buffer);
     let answer = given.answer;
-    let next = given.state;
     let k = put_fetch(out, at, answer, buffer);
-    worked(true, next, items::size_of(s), k)
+    finished(given, s, k)
 }
 
 // A fetch of at most n records, into a buffer that holds them.
@@ -164,8 +165,7 @@ pub(crate) fn fetch(
     if !p.started {
         return idle(p, true);
     }
-    let state = p.state;
     let mut buffer: [u8; FETCH_BUFFER] = [0; FETCH_BUFFER];
     let m = FAULT_SIZE * n;
-    fetch_into(state, t, s, g, &mut buffer[..m], out, at)
+    fetch_into(p.state, t, s, g, &mut buffer[..m], out, at)
 }

@@ -10,16 +10,14 @@ use playing::named;
 use playing::player::Player;
 use playing::player::Turned;
 use playing::results::idle;
+use printing::has_room;
 
 // The record at the front of s, the rest of a journal; its lines are put at place `at`. None is worked where there may be
 // no room for them.
 pub fn turn(p: Player, t: &mut [u64], s: &[u8], out: &mut [u8], at: usize) -> Turned
     ensures { λ r. ⌜ Tells r (now (t .exit)) (now (out .entry)) (now (out .exit)) at (turns.turnIn (length (now (out .entry))) at p (now (t .entry)) (now (s .entry))) ⌝ }
 {
-    if out.len() < FETCH_ROOM {
-        return idle(p, false);
-    }
-    if out.len() - FETCH_ROOM < at {
+    if !has_room(out.len(), at, FETCH_ROOM) {
         return idle(p, false);
     }
     match items::front(s) {

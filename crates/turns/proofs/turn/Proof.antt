@@ -1,148 +1,90 @@
-use Prim.Native.Nat.{_+_, _≤_}
+-- `turns::turn` meets its contract. Assumes nothing.
+use Prim.Native.Nat.{ℕ, _+_, _≤_}
 use mathlib.Core.Path.{_≡_, sym, ap, _∙_}
-use mathlib.Core.Bool.{true, false}
-use native.Mathlib.Omega.{arith}
+use mathlib.Core.Bool.{true}
+use mathlib.Core.List.{List}
+use lib.Dec.{leb}
 use lib.ListN.{length}
 use borrow.Author.Needs.{needs}
-use Rattle.items.specs.declared.Item.the-variants.{Cut, Wrong, NamedGuest, NamedEndpoint, Start, Request, Access, Reset, Fetch}
+use borrow.Author.Tests.{leb-true, not-true, not-false}
+use Rattle.fetch_lines.specs.Lines.{fetchRoom}
+use Rattle.items.specs.declared.Item.{Item}
 use Rattle.items.specs.Items.{front}
-use Rattle.playing.specs.Turns.{turnOf}
+use Rattle.playing.specs.declared.player.Turned.{Turned}
+use Rattle.playing.specs.Turns.{turnOf, turnIn}
+use Rattle.playing.specs.Telling.{Tells}
+use Rattle.playing.proofs.Telling.{tells-silent, tells-turn, tells-full}
 use Rattle.turns.proofs.Reading.{works, front-fits, asks-few}
-use Rattle.playing.proofs.Telling.{tells-idle, tells-turn, tells-full}
 use Rattle.turns.proofs.turn.Statement.{statement}
 use Rattle.turns.proofs.turn.Tie as tie
 
--- where the record is looked at there is room for its lines
-room : (f : tie.After-front) → let a = f .before .before .before .before .before .before .args in a .at + 848 ≤ length (a .out .now)
-room f = omega (arith, f .before .if2 .left, f .before .before .if1 .left)
-
-short : tie.Need-returns
-short c =
-    let a = c .before .before .before .before .before .args in
-    tells-full (c .idle .result) (a .p) (a .t .now) (a .s .now) (a .out .now) (a .at) (omega arith) (c .idle .ensures)
-
-full : tie.Need-returns-2
+full : tie.Need-returns
 full c =
-    let a = c .before .before .before .before .before .before .args in
-    tells-full (c .idle2 .result) (a .p) (a .t .now) (a .s .now) (a .out .now) (a .at) (omega arith) (c .idle2 .ensures)
+    let h = c .before .before in
+    let a = h .before .before .before .before .args in
+    tells-full (a .p) (a .t .now) (a .s .now) (sym (h .has-room .ensures) ∙ not-true _ (c .before .if1 .taken)) (c .idle .ensures)
+
+-- where the record at the front is looked at
+module _ (f : tie.After-front) where
+  abbrev start : tie.Start
+  start = f .before .before .before .before .before .before
+
+  -- there is room for its lines
+  tested : leb (start .args .at + fetchRoom) (length (start .args .out .now)) ≡ true
+  tested = sym (f .before .before .has-room .ensures) ∙ not-false _ (f .before .if1 .left)
+
+  room : start .args .at + fetchRoom ≤ length (start .args .out .now)
+  room = leb-true _ _ tested
+
+  module _ {i : Item} (e : f .front .result ≡ i) where
+    is : front (start .args .s .now) ≡ i
+    is = sym (f .front .ensures) ∙ e
+
+    -- and what is told of its item is told of the turn
+    told : {r : Turned} {words left : List ℕ} → Tells r words (start .args .out .now) left (start .args .at) (turnOf (start .args .p) (start .args .t .now) (start .args .s .now) i)
+        → Tells r words (start .args .out .now) left (start .args .at) (turnIn (length (start .args .out .now)) (start .args .at) (start .args .p) (start .args .t .now) (start .args .s .now))
+    told h = tells-turn (start .args .p) (start .args .t .now) (start .args .s .now) tested is h
 
 request-requires : tie.Need-request-requires
 request-requires c κs =
-    let q = c .before .before .before .g .given in
-    let f = c .before .before .before .before .before in
-    let st = f .before .before .before .before .before .before in
-    let e : works (front (st .args .s .now)) ≡ true = ap works (sym (f .front .ensures) ∙ q .1) in
-    (front-fits (st .args .s .now) e, room f)
+    let g = c .before .before .before in
+    let f = g .before .before in
+    (front-fits (start f .args .s .now) (ap works (is f (g .g .given .1))), room f)
 
 fetch-requires : tie.Need-fetch-requires
 fetch-requires c κs =
-    let q = c .before .before .before .g3 .given in
-    let f = c .before .before .before .before .before in
-    let st = f .before .before .before .before .before .before in
-    (rw (sym (f .front .ensures), q .1) at (asks-few (st .args .s .now)), room f)
-
-cut : tie.Need-returns-3
-unfolding turnOf
-cut c =
-    let f = c .before .before .before in
-    let a = f .before .before .before .before .before .before .args in
-    tells-turn (c .idle3 .result) (a .p) (a .t .now) (a .s .now) (a .t .now) (a .out .now) (a .out .now) (a .at) (f .front .result) Cut (room f) (f .front .ensures) (c .before .enum-told .given .1)
-    (tells-idle (c .idle3 .result) (a .p) false (a .t .now) (a .out .now) (a .at) (c .idle3 .ensures))
-
-wrong : tie.Need-returns-4
-unfolding turnOf
-wrong c =
-    let f = c .before .before .before in
-    let a = f .before .before .before .before .before .before .args in
-    tells-turn (c .idle4 .result) (a .p) (a .t .now) (a .s .now) (a .t .now) (a .out .now) (a .out .now) (a .at) (f .front .result) Wrong (room f) (f .front .ensures) (c .before .enum-told2 .given .1)
-    (tells-idle (c .idle4 .result) (a .p) true (a .t .now) (a .out .now) (a .at) (c .idle4 .ensures))
-
-guest : tie.Need-returns-5
-guest c =
-    let q = c .before .before .f .given in
-    let f = c .before .before .before .before in
-    let a = f .before .before .before .before .before .before .args in
-    tells-turn (c .guest .result) (a .p) (a .t .now) (a .s .now) (a .t .now) (a .out .now) (a .out .now) (a .at) (f .front .result) (NamedGuest (q .0 .0)) (room f) (f .front .ensures) (q .1) (c .guest .ensures (a .t .now) (a .out .now) (a .at))
-
-endpoint : tie.Need-returns-6
-endpoint c =
-    let q = c .before .before .e .given in
-    let f = c .before .before .before .before in
-    let a = f .before .before .before .before .before .before .args in
-    tells-turn (c .endpoint .result) (a .p) (a .t .now) (a .s .now) (a .t .now) (a .out .now) (a .out .now) (a .at) (f .front .result) (NamedEndpoint (q .0 .0) (q .0 .1 .0)) (room f) (f .front .ensures) (q .1) (c .endpoint .ensures (a .t .now) (a .out .now) (a .at))
-
-start : tie.Need-returns-7
-start c =
-    let h = c .before .before .before .before .start in
-    let q = c .before .before .before .before .before .before .before .before .f2 .given in
-    let f = c .before .before .before .before .before .before .before .before .before .before in
-    let a = f .before .before .before .before .before .before .args in
-    tells-turn (h .result) (a .p) (a .t .now) (a .s .now) _ (a .out .now) _ (a .at) (f .front .result) (Start (q .0 .0)) (room f) (f .front .ensures) (q .1) (h .ensures)
-
-request : tie.Need-returns-8
-request c =
-    let h = c .before .before .before .before .request in
-    let q = c .before .before .before .before .before .before .before .before .g .given in
-    let f = c .before .before .before .before .before .before .before .before .before .before in
-    let a = f .before .before .before .before .before .before .args in
-    tells-turn (h .result) (a .p) (a .t .now) (a .s .now) _ (a .out .now) _ (a .at) (f .front .result) (Request (q .0 .0)) (room f) (f .front .ensures) (q .1) (h .ensures)
-
-access : tie.Need-returns-9
-access c =
-    let h = c .before .before .access in
-    let q = c .before .before .before .before .before .before .e2 .given in
-    let f = c .before .before .before .before .before .before .before .before in
-    let a = f .before .before .before .before .before .before .args in
-    tells-turn (h .result) (a .p) (a .t .now) (a .s .now) _ (a .out .now) _ (a .at) (f .front .result) (Access (q .0 .0) (q .0 .1 .0) (q .0 .1 .1 .0)) (room f) (f .front .ensures) (q .1) (h .ensures)
-
-reset : tie.Need-returns-10
-reset c =
-    let h = c .before .before .before .before .reset in
-    let q = c .before .before .before .before .before .before .before .before .g2 .given in
-    let f = c .before .before .before .before .before .before .before .before .before .before in
-    let a = f .before .before .before .before .before .before .args in
-    tells-turn (h .result) (a .p) (a .t .now) (a .s .now) _ (a .out .now) _ (a .at) (f .front .result) (Reset (q .0 .0)) (room f) (f .front .ensures) (q .1) (h .ensures)
-
-fetch : tie.Need-returns-11
-fetch c =
-    let h = c .before .before .fetch in
-    let q = c .before .before .before .before .before .before .g3 .given in
-    let f = c .before .before .before .before .before .before .before .before in
-    let a = f .before .before .before .before .before .before .args in
-    tells-turn (h .result) (a .p) (a .t .now) (a .s .now) _ (a .out .now) _ (a .at) (f .front .result) (Fetch (q .0 .0) (q .0 .1 .0)) (room f) (f .front .ensures) (q .1) (h .ensures)
+    let g = c .before .before .before in
+    let f = g .before .before in
+    (rw (is f (g .g3 .given .1)) at (asks-few (start f .args .s .now)), room f)
 
 pub turn-spec : {M : Type 1} → statement M
 turn-spec =
     tie.close
     (tie.spec
-    (λ c κs. search needs)
-    short
-    (λ c. omega arith)
-    (λ c κs. search needs)
+    (λ c κs. tt)
+    (λ c κs. tt)
     full
-    (λ c κs. search needs)
-    (λ c. search needs) (λ c κs. search needs)
-    (λ c. search needs) (λ c κs. search needs)
-    (λ c. search needs) (λ c κs. search needs)
-    (λ c. search needs) (λ c κs. search needs)
-    (λ c. search needs) (λ c κs. room (c .before .before .before .before .before))
-    (λ c. search needs)
-    request-requires
-    (λ c. search needs) (λ c κs. room (c .before .before .before .before .before))
-    (λ c. search needs) (λ c κs. room (c .before .before .before .before .before))
-    (λ c. search needs)
-    fetch-requires
-    cut
-    wrong
-    guest
-    endpoint
+    (λ c κs. tt)
+    (λ c. c .match .keys1) (λ c κs. tt)
+    (λ c. c .match .keys2) (λ c κs. tt)
+    (λ c. c .match .keys3) (λ c κs. tt)
+    (λ c. c .match .keys4) (λ c κs. tt)
+    (λ c. c .match .keys5) (λ c κs. room (c .before .before .before .before .before))
+    (λ c. c .match .keys6) request-requires
+    (λ c. c .match .keys7) (λ c κs. room (c .before .before .before .before .before))
+    (λ c. c .match .keys8) (λ c κs. room (c .before .before .before .before .before))
+    (λ c. c .match .keys9) fetch-requires
+    (λ c. unfold turnOf in told (c .before .before .before) (c .before .enum-told .given .1) (tells-silent (c .idle2 .ensures)))
+    (λ c. unfold turnOf in told (c .before .before .before) (c .before .enum-told2 .given .1) (tells-silent (c .idle3 .ensures)))
+    (λ c. let i = c .before .before in told (i .before .before) (i .f .given .1) (c .guest .ensures _ _ _))
+    (λ c. let i = c .before .before in told (i .before .before) (i .e .given .1) (c .endpoint .ensures _ _ _))
     (λ c. search needs) (λ c. search needs)
-    start
+    (λ c. let i = c .before .before .before .before .before .before .before .before in told (i .before .before) (i .f2 .given .1) (c .before .before .before .before .start .ensures))
     (λ c. search needs) (λ c. search needs)
-    request
+    (λ c. let i = c .before .before .before .before .before .before .before .before in told (i .before .before) (i .g .given .1) (c .before .before .before .before .request .ensures))
     (λ c. search needs) (λ c. search needs)
-    access
+    (λ c. let i = c .before .before .before .before .before .before in told (i .before .before) (i .e2 .given .1) (c .before .before .access .ensures))
     (λ c. search needs) (λ c. search needs)
-    reset
+    (λ c. let i = c .before .before .before .before .before .before .before .before in told (i .before .before) (i .g2 .given .1) (c .before .before .before .before .reset .ensures))
     (λ c. search needs) (λ c. search needs)
-    fetch)
+    (λ c. let i = c .before .before .before .before .before .before in told (i .before .before) (i .g3 .given .1) (c .before .before .fetch .ensures)))

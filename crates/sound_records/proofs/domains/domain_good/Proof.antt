@@ -9,6 +9,7 @@ use lib.Seq.{length-take-le, getD-take}
 use mathlib.Core.Option.{none}
 use Rattle.laws.specs.Lists.{any?, pickBy, tab}
 use Rattle.laws.proofs.Tables.{length-tab, getD-tab}
+use Rattle.rules.specs.Sizes.{domainSpan}
 use Rattle.rules.specs.State.{Attachment, attachment}
 use Rattle.rules.specs.Handlers.{exists, isIn}
 use Rattle.sound_records.specs.Scan.{domainGood}
@@ -33,8 +34,8 @@ loop-again c =
     let O = a .owners .now in
     let f : ℕ → Attachment = λ i. attachment (getD (a .attached .now) i 0) (getD (a .domains .now) i 0) in
     let j = s .loop .j in
-    let d = a .r .key % 4294967296 in
-    let g = a .r .key / 4294967296 in
+    let d = a .r .key % domainSpan in
+    let g = a .r .key / domainSpan in
     let lo : length (take (a .n) O) ≡ a .n = length-take-le (a .n) O (omega arith) in
     let le : length (tab (a .n) f) ≡ a .n = length-tab (a .n) f in
     let e = owned-on (isIn (named d)) none g (take (a .n) O) (tab (a .n) f) j (s .loop .found) (omega arith) (omega arith) in
@@ -50,7 +51,7 @@ returns c =
     let O = a .owners .now in
     let f : ℕ → Attachment = λ i. attachment (getD (a .attached .now) i 0) (getD (a .domains .now) i 0) in
     let lo : length (take (a .n) O) ≡ a .n = length-take-le (a .n) O (omega arith) in
-    sym (s .loop .inv .1 ∙ rw (owned-end (isIn (named (a .r .key % 4294967296))) none (a .r .key / 4294967296) (take (a .n) O) (tab (a .n) f) (s .loop .j) (omega arith)) (or-false (s .loop .found)))
+    sym (s .loop .inv .1 ∙ rw (owned-end (isIn (named (a .r .key % domainSpan))) none (a .r .key / domainSpan) (take (a .n) O) (tab (a .n) f) (s .loop .j) (omega arith)) (or-false (s .loop .found)))
 
 pub domain-good-spec : {M : Type 1} → statement M
 domain-good-spec =

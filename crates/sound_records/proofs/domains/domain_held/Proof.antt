@@ -6,11 +6,12 @@ use mathlib.Core.Path.{_≡_, sym, ap, _∙_}
 use mathlib.Core.Bool.{Bool, true, _&&_}
 use mathlib.Core.Option.{none}
 use lib.Dec.{eqb}
-use lib.ListN.{length, getD, take}
+use lib.ListN.{getD, take}
 use lib.Seq.{length-take-le, getD-take}
 use Rattle.laws.specs.Lists.{tab}
 use Rattle.laws.proofs.Tests.{both-left, both-right}
 use Rattle.laws.proofs.Tables.{length-tab, getD-tab}
+use Rattle.rules.specs.Sizes.{maxEndpoints, domainSpan}
 use Rattle.rules.specs.State.{Attachment, attachment}
 use Rattle.rules.specs.Handlers.{exists, isIn}
 use Rattle.sound_records.specs.Scan.{domainGood}
@@ -28,9 +29,9 @@ returns c =
     let a = l .before .before .before .before .args in
     let O = a .owners .now in
     let f : ℕ → Attachment = λ i. attachment (getD (a .attached .now) i 0) (getD (a .domains .now) i 0) in
-    let j : ℕ = getD (a .hints .now) (l .slot-of .result) 0 % 32 in
-    let g : ℕ = a .r .key / 4294967296 in
-    let d : ℕ = a .r .key % 4294967296 in
+    let j : ℕ = getD (a .hints .now) (l .slot-of .result) 0 % maxEndpoints in
+    let g : ℕ = a .r .key / domainSpan in
+    let d : ℕ = a .r .key % domainSpan in
     let h : j < a .n = omega arith in
     let p : Bool = eqb (w .before .wide .result) g in
     let q : Bool = eqb (getD (a .attached .now) j 0) 1 && eqb (w .wider .result) d in
