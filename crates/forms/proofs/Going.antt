@@ -16,7 +16,7 @@ module _ (l : List Mapping) (n i : ℕ) (x : Mapping) (h : i < length (take n l)
   pub now-at : drop i (take n l) ≡ x ∷ drop (i + 1) (take n l)
   now-at = rw e (to-go noMapping l n i h)
 
-  -- it goes on, and so do those after it, or none does
+  -- it goes on, and so may those after it, or none does
   pub run-at : (form : Mapping → Bool) (key end : ℕ) → run form key end (drop i (take n l)) ≡ cond (eqb (x .key) key && (ltb end (x .start) && form x)) (suc (run form key (x .end) (drop (i + 1) (take n l)))) 0
   run-at form key end = ap (run form key end) now-at
 

@@ -27,7 +27,7 @@ use rules::State;
 use rules::sizes::FAULT_SIZE;
 use rules::sizes::MAX_FAULTS;
 
-// A call has given this, and k bytes are printed.
+// What a call leaves that has given this: its record is worked, and k bytes are printed.
 fn finished(given: Given, s: &[u8], k: usize) -> Turned
     ensures { λ r. ⌜ r ≡ turned (running (given .state)) (sizeOf (now (s .entry))) k false ⌝ }
 {

@@ -53,6 +53,7 @@ module _ (g : tie.After-get Inv-loop μ-loop) where
   here : at .loop .i < length (take (start all .args .live) (records (start all .args .t .now)))
   here = rw (← all .bounded .ensures .0) (omega arith)
 
+  -- it goes on, and so may those after it, or none does
   step : going all (at .loop .i) (at .loop .before) ≡ cond (eqb (it .key) (start all .args .key) && (ltb (at .loop .before) (it .start) && good all it)) (suc (going all (at .loop .i + 1) (it .end))) 0
   step = run-at (records (start all .args .t .now)) (start all .args .live) (at .loop .i) it here (g .get .ensures) (good all) (start all .args .key) (at .loop .before)
 

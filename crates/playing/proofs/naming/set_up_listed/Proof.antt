@@ -1,3 +1,4 @@
+-- `playing::naming::set_up_listed` meets its contract. Assumes nothing.
 use mathlib.Core.Path.{sym}
 use native.Mathlib.Omega.{arith}
 use borrow.Author.Needs.{needs}

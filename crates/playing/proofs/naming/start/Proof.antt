@@ -1,3 +1,4 @@
+-- `playing::naming::start` meets its contract. Assumes nothing.
 use mathlib.Core.Path.{_∙_}
 use borrow.Author.Needs.{needs}
 use Rattle.rules.specs.State.{configOf}

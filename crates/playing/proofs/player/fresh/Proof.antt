@@ -1,3 +1,4 @@
+-- `playing::player::fresh` meets its contract. Assumes nothing.
 use borrow.Author.Needs.{needs}
 use Rattle.playing.proofs.player.fresh.Statement.{statement}
 use Rattle.playing.proofs.player.fresh.Tie as tie
