@@ -12,11 +12,11 @@ use rules::Domain;
 use rules::Endpoint;
 use rules::Guest;
 use rules::State;
+use rules::requests::INVAL;
+use rules::requests::NOENT;
+use rules::requests::OK;
+use rules::requests::RANGE;
 use rules::sizes::MAX_ENDPOINTS;
-use rules::statuses::INVAL;
-use rules::statuses::NOENT;
-use rules::statuses::OK;
-use rules::statuses::RANGE;
 
 // Whether the endpoint at place i is among the first n and guest g's.
 fn owned_at(n: usize, owners: &[u8], g: Guest, i: usize) -> bool

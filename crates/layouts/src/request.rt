@@ -2,6 +2,10 @@
 use rules::Answer;
 use rules::Domain;
 use rules::Endpoint;
+use rules::requests::ATTACH;
+use rules::requests::DETACH;
+use rules::requests::MAP;
+use rules::requests::UNMAP;
 use wire::fields::field_at;
 ghost use mathlib.Core.Path.{_≡_};
 ghost use Prim.Native.Nat.{_+_, _≤_};
@@ -106,9 +110,9 @@ fn taken_apart(readable: &[u8], kind: u8) -> Request
 {
     let domain = domain_field(readable);
     match kind {
-        1 => Request::Attach(domain, endpoint_field(readable), reserved_field(readable)),
-        2 => Request::Detach(domain, endpoint_field(readable), reserved_field(readable)),
-        3 => Request::Map(domain, map_fields(readable)),
+        ATTACH => Request::Attach(domain, endpoint_field(readable), reserved_field(readable)),
+        DETACH => Request::Detach(domain, endpoint_field(readable), reserved_field(readable)),
+        MAP => Request::Map(domain, map_fields(readable)),
         // Of the known types only UNMAP is left.
         0 | 4..=255 => Request::Unmap(domain, unmap_fields(readable)),
     }
@@ -123,7 +127,7 @@ pub fn parse(readable: &[u8], writable: usize) -> Request
     }
     let kind = readable[0];
     match kind {
-        1..=4 => {
+        ATTACH..=UNMAP => {
             let readable_length = lengths::readable_length(kind);
             let writable_length = lengths::writable_length(kind);
             if (readable.len() == readable_length) & (writable == writable_length) {

@@ -1,16 +1,20 @@
 // The lengths of a request's two parts.
 ghost use mathlib.Core.Path.{_≡_};
 ghost use Rattle.rules.specs.Requests.{readableLength, writableLength};
+use rules::requests::ATTACH;
+use rules::requests::DETACH;
+use rules::requests::MAP;
+use rules::requests::UNMAP;
 
 // The number of bytes that a request of this type has in its readable part.
 pub fn readable_length(kind: u8) -> usize
     ensures { λ r. ⌜ r ≡ readableLength kind ⌝ }
 {
     match kind {
-        1 => 20,
-        2 => 20,
-        3 => 36,
-        4 => 28,
+        ATTACH => 20,
+        DETACH => 20,
+        MAP => 36,
+        UNMAP => 28,
         0 | 5..=255 => 0,
     }
 }
@@ -20,7 +24,7 @@ pub fn writable_length(kind: u8) -> usize
     ensures { λ r. ⌜ r ≡ writableLength kind ⌝ }
 {
     match kind {
-        1..=4 => 4,
+        ATTACH..=UNMAP => 4,
         0 | 5..=255 => 0,
     }
 }

@@ -11,10 +11,10 @@ use forms::in_window;
 use rules::Guest;
 use rules::Mapping;
 use rules::Settings;
-use rules::statuses::FAULT;
-use rules::statuses::INVAL;
-use rules::statuses::OK;
-use rules::statuses::RANGE;
+use rules::requests::FAULT;
+use rules::requests::INVAL;
+use rules::requests::OK;
+use rules::requests::RANGE;
 
 // Whether address x lies outside those from a to b.
 fn is_outside(a: u64, b: u64, x: u64) -> bool

@@ -14,11 +14,11 @@ use rules::Domain;
 use rules::Guest;
 use rules::Mapping;
 use rules::State;
+use rules::requests::INVAL;
+use rules::requests::NOENT;
+use rules::requests::NOMEM;
+use rules::requests::OK;
 use rules::sizes::MAX_GUESTS;
-use rules::statuses::INVAL;
-use rules::statuses::NOENT;
-use rules::statuses::NOMEM;
-use rules::statuses::OK;
 
 // The places for guests, as a guest's number counts them.
 const GUEST_PLACES: u8 = MAX_GUESTS as u8;

@@ -20,7 +20,7 @@ use rules::Answer;
 use rules::Guest;
 use rules::Mapping;
 use rules::State;
-use rules::statuses::OK;
+use rules::requests::OK;
 
 // The handler of a request's type.
 fn handle(s: State, t: &mut [u64], g: Guest, q: Request) -> Handled

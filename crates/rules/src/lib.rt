@@ -1,6 +1,6 @@
-// The types that the definitions and the code share, and the sizes and statuses that the code names. There is no function here.
+// The types that the definitions and the code share, and the numbers that the code names. There is no function here.
+pub mod requests;
 pub mod sizes;
-pub mod statuses;
 
 use sizes::FAULT_PLACES;
 use sizes::MAX_ENDPOINTS;

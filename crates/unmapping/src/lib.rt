@@ -10,10 +10,10 @@ use moves::remove;
 use rules::Domain;
 use rules::Guest;
 use rules::State;
-use rules::statuses::INVAL;
-use rules::statuses::NOENT;
-use rules::statuses::OK;
-use rules::statuses::RANGE;
+use rules::requests::INVAL;
+use rules::requests::NOENT;
+use rules::requests::OK;
+use rules::requests::RANGE;
 
 // The status of UNMAP by its steps.
 fn first_unmap(missing: bool, reserved: bool, order: bool, split: bool) -> u8
