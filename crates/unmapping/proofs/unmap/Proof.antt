@@ -1,4 +1,5 @@
 -- `unmapping::unmap` meets its contract. Assumes nothing.
+use native.Mathlib.Omega.{arith}
 use borrow.Author.Needs.{needs}
 use Rattle.effects.proofs.Mapped.{unmap-refused, unmap-done}
 use Rattle.unmapping.proofs.unmap.Statement.{statement}
@@ -8,7 +9,7 @@ returns : tie.Need-returns
 returns c =
     let x = c .before .unmap-status in
     let a = c .before .before .before .before .args in
-    unmap-refused (a .s) (a .t .now) (a .g) (a .d) (a .a) (a .b) (a .reserved) (x .result) (x .ensures) (c .if1 .taken)
+    unmap-refused (a .s) (a .t .now) (a .g) (a .d) (a .a) (a .b) (a .reserved) (x .result) (x .ensures) (λ z. omega arith)
 
 returns-2 : tie.Need-returns-2
 returns-2 c =
@@ -17,7 +18,7 @@ returns-2 c =
     let e = c .before .before .before .before .before in
     let x = e .before .unmap-status in
     let a = e .before .before .before .before .args in
-    unmap-done (a .s) (a .t .now) (a .g) (a .d) (a .a) (a .b) (a .reserved) (x .result) (k .result) (r .result) (r .last .1 .0) (x .ensures) (e .if1 .left) (k .ensures) (r .ensures)
+    unmap-done (a .s) (a .t .now) (a .g) (a .d) (a .a) (a .b) (a .reserved) (x .result) (k .result) (r .result) (r .last .1 .0) (x .ensures) (omega (arith, e .if1 .left)) (k .ensures) (r .ensures)
 
 pub unmap-spec : {M : Type 1} → statement M
 unmap-spec = tie.close (tie.spec (λ c κs. search needs) (λ c. search needs) returns (λ c κs. search needs) (λ c κs. search needs) (λ c. search needs) returns-2)
