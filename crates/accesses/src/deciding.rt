@@ -6,7 +6,7 @@ ghost use lib.ListN.{take};
 ghost use Rattle.rules.specs.Sizes.{maxEndpoints};
 ghost use Rattle.rules.specs.declared.Mapping.{Mapping};
 ghost use Rattle.rules.specs.Table.{records};
-ghost use Rattle.rules.specs.Access.{lookup};
+ghost use Rattle.rules.specs.Access.{findMapping};
 ghost use Rattle.effects.specs.Flat.{answerOf, decided};
 use lookups::Found;
 use moves::key_of;
@@ -18,10 +18,10 @@ use rules::sizes::MAX_ENDPOINTS;
 
 // The answer of an access of this kind under a domain's key.
 fn translate(t: &[u64], live: usize, key: u64, address: u64, kind: u8) -> Answer
-    requires { ⌜ ((r : Mapping) → lookup key address kind (take live (records (now t))) ≡ some r → address - r .start + r .phys ≤ 18446744073709551615) ⌝ }
-    ensures { λ r. ⌜ r ≡ answerOf address (lookup key address kind (take live (records (now (t .entry))))) ⌝ }
+    requires { ⌜ ((r : Mapping) → findMapping key address kind (take live (records (now t))) ≡ some r → address - r .start + r .phys ≤ 18446744073709551615) ⌝ }
+    ensures { λ r. ⌜ r ≡ answerOf address (findMapping key address kind (take live (records (now (t .entry))))) ⌝ }
 {
-    match lookups::lookup(t, live, key, address, kind) {
+    match lookups::findMapping(t, live, key, address, kind) {
         Found::At(r) => Answer::Through(address - r.start + r.phys),
         Found::Nothing => Answer::Unmapped,
     }
@@ -41,7 +41,7 @@ pub(crate) fn decide<'a>(
     kind: u8,
 ) -> Answer
     requires { ⌜ listed ≤ maxEndpoints ⌝ }
-    requires { ⌜ ((key : ℕ) (r : Mapping) → lookup key address kind (take live (records (now t))) ≡ some r → address - r .start + r .phys ≤ 18446744073709551615) ⌝ }
+    requires { ⌜ ((key : ℕ) (r : Mapping) → findMapping key address kind (take live (records (now t))) ≡ some r → address - r .start + r .phys ≤ 18446744073709551615) ⌝ }
     ensures { λ r. ⌜ r ≡ decided listed (now (endpoints .entry)) (now (owners .entry)) (now (attached .entry)) (now (domains .entry)) (take live (records (now (t .entry)))) e address kind ⌝ }
 {
     let i = attachments::place_of(listed, endpoints, e);

@@ -6,7 +6,7 @@ ghost use mathlib.Core.Path.{_≡_};
 ghost use mathlib.Core.List.{[]};
 ghost use Rattle.rules.specs.Device.{step, access-by};
 ghost use Rattle.state.specs.Pieces.{stateWith, Shaped};
-ghost use Rattle.soundness.specs.Pieces.{deviceOf};
+ghost use Rattle.soundness.specs.Pieces.{deviceWith};
 ghost use Rattle.effects.specs.Flat.{device};
 ghost use Rattle.effects.specs.Checked.{replied};
 use effects::Given;
@@ -40,7 +40,7 @@ pub fn access_answer<'a>(
     address: u64,
     kind: u8,
 ) -> Answer
-    ensures { λ r. ⌜ (r ≡ step (deviceOf settings listed live (now (endpoints .entry)) (now (owners .entry)) (now (attached .entry)) (now (domains .entry)) (now (logged .entry)) (now (lost .entry)) (now (reasons .entry)) (now (flags .entry)) (now (sources .entry)) (now (addresses .entry)) (now (t .entry))) (access-by e address kind) .0 .answer) × Shaped (stateWith settings listed live (now (endpoints .entry)) (now (owners .entry)) (now (attached .entry)) (now (domains .entry)) (now (logged .entry)) (now (lost .entry)) (now (reasons .entry)) (now (flags .entry)) (now (sources .entry)) (now (addresses .entry))) ⌝ }
+    ensures { λ r. ⌜ (r ≡ step (deviceWith settings listed live (now (endpoints .entry)) (now (owners .entry)) (now (attached .entry)) (now (domains .entry)) (now (logged .entry)) (now (lost .entry)) (now (reasons .entry)) (now (flags .entry)) (now (sources .entry)) (now (addresses .entry)) (now (t .entry))) (access-by e address kind) .0 .answer) × Shaped (stateWith settings listed live (now (endpoints .entry)) (now (owners .entry)) (now (attached .entry)) (now (domains .entry)) (now (logged .entry)) (now (lost .entry)) (now (reasons .entry)) (now (flags .entry)) (now (sources .entry)) (now (addresses .entry))) ⌝ }
 {
     if !checks::lent_sound(
         settings,

@@ -2,8 +2,8 @@
 use Prim.Native.Nat.{ℕ}
 use lib.ListN.{set}
 use Rattle.rules.specs.declared.State.{State}
-use Rattle.state.specs.Fields.{withAttachments}
+use Rattle.state.specs.Fields.{withAttached}
 
 -- the endpoint at place i gets this flag and domain
 unfoldable pub attachedAt : State → ℕ → ℕ → ℕ → State
-attachedAt s i flag d = withAttachments (set (s .attached) i flag) (set (s .domains) i d) s
+attachedAt s i flag d = withAttached (set (s .attached) i flag) (set (s .domains) i d) s

@@ -1,10 +1,10 @@
 // The test that comes before every call.
 ghost use mathlib.Core.Path.{_≡_};
 ghost use Prim.Native.Nat.{ℕ, _≤_};
-ghost use Rattle.rules.specs.Configuration.{last};
+ghost use Rattle.rules.specs.Configuration.{windowLast};
 ghost use Rattle.rules.specs.Sound.{sound};
 ghost use Rattle.state.specs.Pieces.{stateWith, Shaped};
-ghost use Rattle.soundness.specs.Pieces.{deviceOf};
+ghost use Rattle.soundness.specs.Pieces.{deviceWith};
 ghost use Rattle.effects.specs.Flat.{device};
 use rules::Settings;
 use rules::State;
@@ -14,7 +14,7 @@ use rules::sizes::MAX_GUESTS;
 
 // Whether state and table are sound; and, for whoever calls, what the types of the state's arrays fix.
 pub fn is_sound(s: State, t: &[u64]) -> bool
-    ensures { λ r. ⌜ (r ≡ sound (device s (now (t .entry)))) × Shaped s × ((i : ℕ) → last (s .settings) i ≤ 18446744073709551615) ⌝ }
+    ensures { λ r. ⌜ (r ≡ sound (device s (now (t .entry)))) × Shaped s × ((i : ℕ) → windowLast (s .settings) i ≤ 18446744073709551615) ⌝ }
 {
     let settings = s.settings;
     soundness::is_sound(
@@ -67,7 +67,7 @@ pub fn lent_sound<'a>(
     addresses: &'a [u64; FAULT_PLACES],
     t: &'a [u64],
 ) -> bool
-    ensures { λ r. ⌜ (r ≡ sound (deviceOf settings listed live (now (endpoints .entry)) (now (owners .entry)) (now (attached .entry)) (now (domains .entry)) (now (logged .entry)) (now (lost .entry)) (now (reasons .entry)) (now (flags .entry)) (now (sources .entry)) (now (addresses .entry)) (now (t .entry)))) × Shaped (stateWith settings listed live (now (endpoints .entry)) (now (owners .entry)) (now (attached .entry)) (now (domains .entry)) (now (logged .entry)) (now (lost .entry)) (now (reasons .entry)) (now (flags .entry)) (now (sources .entry)) (now (addresses .entry))) × ((i : ℕ) → last settings i ≤ 18446744073709551615) ⌝ }
+    ensures { λ r. ⌜ (r ≡ sound (deviceWith settings listed live (now (endpoints .entry)) (now (owners .entry)) (now (attached .entry)) (now (domains .entry)) (now (logged .entry)) (now (lost .entry)) (now (reasons .entry)) (now (flags .entry)) (now (sources .entry)) (now (addresses .entry)) (now (t .entry)))) × Shaped (stateWith settings listed live (now (endpoints .entry)) (now (owners .entry)) (now (attached .entry)) (now (domains .entry)) (now (logged .entry)) (now (lost .entry)) (now (reasons .entry)) (now (flags .entry)) (now (sources .entry)) (now (addresses .entry))) × ((i : ℕ) → windowLast settings i ≤ 18446744073709551615) ⌝ }
 {
     measure(
         endpoints,

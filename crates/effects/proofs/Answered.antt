@@ -28,7 +28,7 @@ use Rattle.rules.specs.Table.{keyOf, guestOf}
 use Rattle.rules.specs.State.{Attachment, Log, World, Device, noFault, configOf, read, write, flagOf, numberOf, faultAt, logAt}
 use Rattle.rules.specs.Guests.{Part, own, part, replace, withLog}
 use Rattle.rules.specs.Handlers.{attachmentOf, ofKey}
-use Rattle.rules.specs.Access.{permits, lookup, faultOf, logged, fetchable, fetchedInto, fetchedFrom, bytesOf}
+use Rattle.rules.specs.Access.{permits, findMapping, faultOf, logged, fetchable, fetchedInto, fetchedFrom, bytesOf}
 use Rattle.rules.specs.Access as A
 use Rattle.rules.specs.Sound.{guest, sound}
 use Rattle.rules.specs.Device.{access-by, fetch-for, Reply, rule, ownerOf, caller, work, step}
@@ -39,7 +39,7 @@ use Rattle.state.specs.Pieces.{Shaped}
 use Rattle.logging.specs.Changes.{faultLogged}
 use Rattle.dropping.specs.Changes.{faultsDropped}
 use Rattle.attachments.specs.Search.{indexOf}
-use Rattle.effects.specs.Flat.{device, placeOf, isAttached, liveRecords, answerOf, decided, decision, accessed, fetchCount, fetchBytes}
+use Rattle.effects.specs.Flat.{device, placeOfEndpoint, isAttached, liveRecords, answerOf, decided, decision, accessed, fetchCount, fetchBytes}
 use Rattle.effects.proofs.Places.{owner-at}
 use Rattle.effects.proofs.Leaving.{replace-same, attachment-here, flag-here, number-here, of-key-mine}
 use Rattle.effects.proofs.Requested.{small-domain, fault-written, fetch-written}
@@ -61,15 +61,15 @@ module _ (d : Device) (h : sound d ≡ true) (k : Shaped (d .state)) where
   listed-is = sym (sound-listed d h)
 
   -- the owner of an endpoint, by its place in the arrays
-  owner-here : (e : Endpoint) → ownerOf e (configOf (d .state) .endpoints) (configOf (d .state) .owners) ≡ cond (ltb (placeOf (d .state) e) (d .state .listed)) (some (guest (getD (d .state .owners) (placeOf (d .state) e) 0))) none
+  owner-here : (e : Endpoint) → ownerOf e (configOf (d .state) .endpoints) (configOf (d .state) .owners) ≡ cond (ltb (placeOfEndpoint (d .state) e) (d .state .listed)) (some (guest (getD (d .state .owners) (placeOfEndpoint (d .state) e) 0))) none
   unfolding configOf
   owner-here e =
       owner-at e (configOf (d .state) .endpoints) (configOf (d .state) .owners) (sym (sound-good d h .sizes))
-      ∙ ap (λ n. cond (ltb (placeOf (d .state) e) n) (some (guest (getD (configOf (d .state) .owners) (placeOf (d .state) e) 0))) none) (sym listed-is)
-      ∙ go (ltb (placeOf (d .state) e) (d .state .listed)) refl
+      ∙ ap (λ n. cond (ltb (placeOfEndpoint (d .state) e) n) (some (guest (getD (configOf (d .state) .owners) (placeOfEndpoint (d .state) e) 0))) none) (sym listed-is)
+      ∙ go (ltb (placeOfEndpoint (d .state) e) (d .state .listed)) refl
     where
-      go : (b : Bool) → ltb (placeOf (d .state) e) (d .state .listed) ≡ b → cond b (some (guest (getD (configOf (d .state) .owners) (placeOf (d .state) e) 0))) none ≡ cond b (some (guest (getD (d .state .owners) (placeOf (d .state) e) 0))) none
-      go true x = ap (λ n. some (guest n)) (getD-take (d .state .listed) (d .state .owners) (placeOf (d .state) e) 0 (ltb-true _ _ x))
+      go : (b : Bool) → ltb (placeOfEndpoint (d .state) e) (d .state .listed) ≡ b → cond b (some (guest (getD (configOf (d .state) .owners) (placeOfEndpoint (d .state) e) 0))) none ≡ cond b (some (guest (getD (d .state .owners) (placeOfEndpoint (d .state) e) 0))) none
+      go true x = ap (λ n. some (guest n)) (getD-take (d .state .listed) (d .state .owners) (placeOfEndpoint (d .state) e) 0 (ltb-true _ _ x))
       go false x = refl
 
   module _ (e : Endpoint) (x kind : ℕ) (g : Guest) (owner : ownerOf e (configOf (d .state) .endpoints) (configOf (d .state) .owners) ≡ some g) where
@@ -80,26 +80,26 @@ module _ (d : Device) (h : sound d ≡ true) (k : Shaped (d .state)) where
     here = attachmentOf e (own (configOf (d .state)) g .endpoints) (part (configOf (d .state)) g (read d) .attachments)
 
     found-here : (dom : Domain) → attachmentOf e (own (configOf (d .state)) g .endpoints) (part (configOf (d .state)) g (read d) .attachments) ≡ some dom
-        → lookup (keyOf (own (configOf (d .state)) g .guest) dom) x kind (part (configOf (d .state)) g (read d) .records) ≡ lookup (keyOf g dom) x kind (liveRecords d)
+        → findMapping (keyOf (own (configOf (d .state)) g .guest) dom) x kind (part (configOf (d .state)) g (read d) .records) ≡ findMapping (keyOf g dom) x kind (liveRecords d)
     found-here dom a =
-        unfold lookup own part read in
+        unfold findMapping own part read in
         find-keep (λ r. eqb (guestOf r) (g .0)) (permits (keyOf g dom) x kind) (liveRecords d) (λ r p. eq-eqb (guestOf r) (g .0) (of-key-mine g dom r (small-domain (configOf (d .state)) (kept-is d h k) (read d) (whole d h k) g m e dom a) (permits-key (keyOf g dom) x kind r p)))
 
     -- what the arrays say at the endpoint's place
-    place-is : placeOf (d .state) e ≡ indexOf (e .0) (configOf (d .state) .endpoints)
+    place-is : placeOfEndpoint (d .state) e ≡ indexOf (e .0) (configOf (d .state) .endpoints)
     place-is = unfold configOf in refl
 
     attachment-is : attachmentOf e (own (configOf (d .state)) g .endpoints) (part (configOf (d .state)) g (read d) .attachments) ≡ getD (read d .attachments) (indexOf (e .0) (configOf (d .state) .endpoints)) none
     attachment-is = attachment-here (configOf (d .state)) (kept-is d h k) (read d) (whole d h k) g m e owner
 
-    flag-is : isAttached (d .state) (placeOf (d .state) e) ≡ eqb (flagOf (attachmentOf e (own (configOf (d .state)) g .endpoints) (part (configOf (d .state)) g (read d) .attachments))) 1
+    flag-is : isAttached (d .state) (placeOfEndpoint (d .state) e) ≡ eqb (flagOf (attachmentOf e (own (configOf (d .state)) g .endpoints) (part (configOf (d .state)) g (read d) .attachments))) 1
     flag-is =
         ap (λ n. isAttached (d .state) n) place-is
         ∙ ap (λ (v : Device). isAttached (v .state) (indexOf (e .0) (configOf (d .state) .endpoints))) (written d h k)
         ∙ flag-here (configOf (d .state)) (kept-is d h k) (read d) (whole d h k) g m e owner
         ∙ ap (λ (a : Attachment). eqb (flagOf a) 1) (sym attachment-is)
 
-    number-is : getD (d .state .domains) (placeOf (d .state) e) 0 ≡ numberOf (attachmentOf e (own (configOf (d .state)) g .endpoints) (part (configOf (d .state)) g (read d) .attachments))
+    number-is : getD (d .state .domains) (placeOfEndpoint (d .state) e) 0 ≡ numberOf (attachmentOf e (own (configOf (d .state)) g .endpoints) (part (configOf (d .state)) g (read d) .attachments))
     number-is =
         ap (λ n. getD (d .state .domains) n 0) place-is
         ∙ ap (λ (v : Device). getD (v .state .domains) (indexOf (e .0) (configOf (d .state) .endpoints)) 0) (written d h k)
@@ -107,8 +107,8 @@ module _ (d : Device) (h : sound d ≡ true) (k : Shaped (d .state)) where
         ∙ ap numberOf (sym attachment-is)
 
     -- a fault logged for the owner
-    logged-here : (reason : ℕ) → getD (d .state .owners) (placeOf (d .state) e) 0 ≡ g .0
-        → device (faultLogged (d .state) (getD (d .state .owners) (placeOf (d .state) e) 0) (faultOf reason e x kind)) (d .table)
+    logged-here : (reason : ℕ) → getD (d .state .owners) (placeOfEndpoint (d .state) e) 0 ≡ g .0
+        → device (faultLogged (d .state) (getD (d .state .owners) (placeOfEndpoint (d .state) e) 0) (faultOf reason e x kind)) (d .table)
         ≡ write (configOf (d .state)) (replace (configOf (d .state)) g (withLog (logged (faultOf reason e x kind) (part (configOf (d .state)) g (read d) .log)) (part (configOf (d .state)) g (read d))) (read d))
     logged-here reason o =
         ap (λ n. device (faultLogged (d .state) n (faultOf reason e x kind)) (d .table)) o
@@ -126,17 +126,17 @@ module _ (d : Device) (h : sound d ≡ true) (k : Shaped (d .state)) where
     abbrev ruled : Answer × Part → Reply × Device
     ruled r = (record { answer = r .0; buffer = [] }, write (configOf (d .state)) (replace (configOf (d .state)) g (r .1) (read d)))
 
-    looked : getD (d .state .owners) (placeOf (d .state) e) 0 ≡ g .0 → (o : Option Mapping) → flat (answerOf x o) ≡ ruled (A.translated e x kind (part (configOf (d .state)) g (read d)) o)
+    looked : getD (d .state .owners) (placeOfEndpoint (d .state) e) 0 ≡ g .0 → (o : Option Mapping) → flat (answerOf x o) ≡ ruled (A.translated e x kind (part (configOf (d .state)) g (read d)) o)
     unfolding accessed answerOf A.translated A.blocked
     looked w none = ap (λ (v : Device). (record { answer = Unmapped; buffer = [] }, v)) (logged-here 2 w)
     looked w (some r) = ap (λ (v : Device). (record { answer = Through (x - r .start + r .phys); buffer = [] }, v)) same-here
 
-    unattached : ltb (placeOf (d .state) e) (d .state .listed) ≡ true → eqb (getD (d .state .attached) (placeOf (d .state) e) 0) 1 ≡ false → decision d e x kind ≡ Unattached
+    unattached : ltb (placeOfEndpoint (d .state) e) (d .state .listed) ≡ true → eqb (getD (d .state .attached) (placeOfEndpoint (d .state) e) 0) 1 ≡ false → decision d e x kind ≡ Unattached
     unfolding decided
     unattached l off = rw (l, off)
 
-    by-lookup : (dom : Domain) → ltb (placeOf (d .state) e) (d .state .listed) ≡ true → eqb (getD (d .state .attached) (placeOf (d .state) e) 0) 1 ≡ true → getD (d .state .owners) (placeOf (d .state) e) 0 ≡ g .0 → getD (d .state .domains) (placeOf (d .state) e) 0 ≡ dom .0
-        → decision d e x kind ≡ answerOf x (lookup (keyOf g dom) x kind (liveRecords d))
+    by-lookup : (dom : Domain) → ltb (placeOfEndpoint (d .state) e) (d .state .listed) ≡ true → eqb (getD (d .state .attached) (placeOfEndpoint (d .state) e) 0) 1 ≡ true → getD (d .state .owners) (placeOfEndpoint (d .state) e) 0 ≡ g .0 → getD (d .state .domains) (placeOfEndpoint (d .state) e) 0 ≡ dom .0
+        → decision d e x kind ≡ answerOf x (findMapping (keyOf g dom) x kind (liveRecords d))
     unfolding decided
     by-lookup dom l on w number = rw (l, on, w, number)
 
@@ -144,29 +144,29 @@ module _ (d : Device) (h : sound d ≡ true) (k : Shaped (d .state)) where
     abbrev ruledBy : Attachment → Reply × Device
     ruledBy a = ruled (A.decided (own (configOf (d .state)) g) (part (configOf (d .state)) g (read d)) e x kind a)
 
-    flat-unattached : getD (d .state .owners) (placeOf (d .state) e) 0 ≡ g .0 → flat Unattached ≡ ruledBy none
+    flat-unattached : getD (d .state .owners) (placeOfEndpoint (d .state) e) 0 ≡ g .0 → flat Unattached ≡ ruledBy none
     unfolding accessed A.decided A.blocked
     flat-unattached w = ap (λ (v : Device). (record { answer = Unattached; buffer = [] }, v)) (logged-here 1 w)
 
-    flat-found : (dom : Domain) → getD (d .state .owners) (placeOf (d .state) e) 0 ≡ g .0 → flat (answerOf x (lookup (keyOf (own (configOf (d .state)) g .guest) dom) x kind (part (configOf (d .state)) g (read d) .records))) ≡ ruledBy (some dom)
+    flat-found : (dom : Domain) → getD (d .state .owners) (placeOfEndpoint (d .state) e) 0 ≡ g .0 → flat (answerOf x (findMapping (keyOf (own (configOf (d .state)) g .guest) dom) x kind (part (configOf (d .state)) g (read d) .records))) ≡ ruledBy (some dom)
     unfolding A.decided
-    flat-found dom w = looked w (lookup (keyOf (own (configOf (d .state)) g .guest) dom) x kind (part (configOf (d .state)) g (read d) .records))
+    flat-found dom w = looked w (findMapping (keyOf (own (configOf (d .state)) g .guest) dom) x kind (part (configOf (d .state)) g (read d) .records))
 
-    decided-by : ltb (placeOf (d .state) e) (d .state .listed) ≡ true → getD (d .state .owners) (placeOf (d .state) e) 0 ≡ g .0 → (a : Attachment) → attachmentOf e (own (configOf (d .state)) g .endpoints) (part (configOf (d .state)) g (read d) .attachments) ≡ a → flat (decision d e x kind) ≡ ruledBy a
+    decided-by : ltb (placeOfEndpoint (d .state) e) (d .state .listed) ≡ true → getD (d .state .owners) (placeOfEndpoint (d .state) e) 0 ≡ g .0 → (a : Attachment) → attachmentOf e (own (configOf (d .state)) g .endpoints) (part (configOf (d .state)) g (read d) .attachments) ≡ a → flat (decision d e x kind) ≡ ruledBy a
     decided-by l w none a = ap (λ (y : Answer). flat y) (unattached l (flag-is ∙ ap (λ (y : Attachment). eqb (flagOf y) 1) a)) ∙ flat-unattached w
     decided-by l w (some dom) a =
         ap (λ (y : Answer). flat y) (by-lookup dom l (flag-is ∙ ap (λ (y : Attachment). eqb (flagOf y) 1) a) w (number-is ∙ ap numberOf a) ∙ ap (λ (o : Option Mapping). answerOf x o) (sym (found-here dom a)))
         ∙ flat-found dom w
 
-    decided-here : ltb (placeOf (d .state) e) (d .state .listed) ≡ true → getD (d .state .owners) (placeOf (d .state) e) 0 ≡ g .0
+    decided-here : ltb (placeOfEndpoint (d .state) e) (d .state .listed) ≡ true → getD (d .state .owners) (placeOfEndpoint (d .state) e) 0 ≡ g .0
         → flat (decision d e x kind) ≡ ruledBy (attachmentOf e (own (configOf (d .state)) g .endpoints) (part (configOf (d .state)) g (read d) .attachments))
     decided-here l w = decided-by l w (attachmentOf e (own (configOf (d .state)) g .endpoints) (part (configOf (d .state)) g (read d) .attachments)) refl
 
-  unlisted : (e : Endpoint) (x kind : ℕ) → ltb (placeOf (d .state) e) (d .state .listed) ≡ false → decision d e x kind ≡ UnknownEndpoint
+  unlisted : (e : Endpoint) (x kind : ℕ) → ltb (placeOfEndpoint (d .state) e) (d .state .listed) ≡ false → decision d e x kind ≡ UnknownEndpoint
   unfolding decided
   unlisted e x kind l = rw l
 
-  listed-step : (e : Endpoint) (x kind : ℕ) (g : Guest) → ownerOf e (configOf (d .state) .endpoints) (configOf (d .state) .owners) ≡ some g → ltb (placeOf (d .state) e) (d .state .listed) ≡ true → getD (d .state .owners) (placeOf (d .state) e) 0 ≡ g .0
+  listed-step : (e : Endpoint) (x kind : ℕ) (g : Guest) → ownerOf e (configOf (d .state) .endpoints) (configOf (d .state) .owners) ≡ some g → ltb (placeOfEndpoint (d .state) e) (d .state .listed) ≡ true → getD (d .state .owners) (placeOfEndpoint (d .state) e) 0 ≡ g .0
       → rules.worked d (some g) (access-by e x kind) ≡ (record { answer = decision d e x kind; buffer = [] }, device (accessed (d .state) e x kind (decision d e x kind)) (d .table))
   unfolding rules.worked work rule A.access
   listed-step e x kind g owner l w = sym (decided-here e x kind g owner l w)
@@ -176,13 +176,13 @@ module _ (d : Device) (h : sound d ≡ true) (k : Shaped (d .state)) where
   unlisted-step e x kind = refl
 
   by-owner : (e : Endpoint) (x kind : ℕ) → rules.worked d (ownerOf e (configOf (d .state) .endpoints) (configOf (d .state) .owners)) (access-by e x kind) ≡ (record { answer = decision d e x kind; buffer = [] }, device (accessed (d .state) e x kind (decision d e x kind)) (d .table))
-  by-owner e x kind = go (ltb (placeOf (d .state) e) (d .state .listed)) refl
+  by-owner e x kind = go (ltb (placeOfEndpoint (d .state) e) (d .state .listed)) refl
     where
-      go : (b : Bool) → ltb (placeOf (d .state) e) (d .state .listed) ≡ b
+      go : (b : Bool) → ltb (placeOfEndpoint (d .state) e) (d .state .listed) ≡ b
           → rules.worked d (ownerOf e (configOf (d .state) .endpoints) (configOf (d .state) .owners)) (access-by e x kind) ≡ (record { answer = decision d e x kind; buffer = [] }, device (accessed (d .state) e x kind (decision d e x kind)) (d .table))
       go true l =
-          let owner : ownerOf e (configOf (d .state) .endpoints) (configOf (d .state) .owners) ≡ some (guest (getD (d .state .owners) (placeOf (d .state) e) 0)) = owner-here e ∙ rw l in
-          rw owner (listed-step e x kind (guest (getD (d .state .owners) (placeOf (d .state) e) 0)) owner l refl)
+          let owner : ownerOf e (configOf (d .state) .endpoints) (configOf (d .state) .owners) ≡ some (guest (getD (d .state .owners) (placeOfEndpoint (d .state) e) 0)) = owner-here e ∙ rw l in
+          rw owner (listed-step e x kind (guest (getD (d .state .owners) (placeOfEndpoint (d .state) e) 0)) owner l refl)
       go false l =
           let owner : ownerOf e (configOf (d .state) .endpoints) (configOf (d .state) .owners) ≡ none = owner-here e ∙ rw l in
           rw (owner, unlisted e x kind l) (unlisted-step e x kind)

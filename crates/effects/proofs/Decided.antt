@@ -26,7 +26,7 @@ use Rattle.rules.specs.declared.Answer.the-variants.{Done, Served, Through, Fet
 use Rattle.rules.proofs.Answer as answer
 use Rattle.rules.specs.Sizes.{maxFaults, domainSpan}
 use Rattle.rules.specs.State.{faultAt}
-use Rattle.rules.specs.Access.{permits, lookup, faultOf, faultBytes, bytesOf}
+use Rattle.rules.specs.Access.{permits, findMapping, faultOf, faultBytes, bytesOf}
 use Rattle.rules.proofs.Access.{permits-covers}
 use Rattle.lookups.specs.declared.Found.{Found}
 use Rattle.lookups.specs.declared.Found.the-variants.{At, Nothing}
@@ -35,7 +35,7 @@ use Rattle.lookups.proofs.Outcomes.{found-at, found-nothing}
 use Rattle.logging.specs.Changes.{faultLogged}
 use Rattle.attachments.specs.Search.{indexOf}
 use Rattle.fault_records.proofs.Laws.{length-fault, fault-whole}
-use Rattle.effects.specs.Flat.{placeOf, answerOf, decided, reasonOf, accessed, fetchBytes}
+use Rattle.effects.specs.Flat.{placeOfEndpoint, answerOf, decided, reasonOf, accessed, fetchBytes}
 
 -- ACCESS
 
@@ -53,8 +53,8 @@ module _ (f : Found) (o : Option Mapping) (gave : f ≡ foundOf o) where
   answers-unmapped x e = rw (found-nothing o (sym e ∙ gave))
 
 -- a record that lets an access through starts no later than the address
-pub starts-before : (key x k : ℕ) (l : List Mapping) (r : Mapping) → lookup key x k l ≡ some r → r .start ≤ x
-unfolding lookup
+pub starts-before : (key x k : ℕ) (l : List Mapping) (r : Mapping) → findMapping key x k l ≡ some r → r .start ≤ x
+unfolding findMapping
 starts-before key x k l r e = permits-covers key x k r (found-passes (permits key x k) l r e) .from
 
 module _ (n : ℕ) (endpoints owners attached domains : List ℕ) (l : List Mapping) (e : Endpoint) (x k i : ℕ) (at : i ≡ indexOf (e .0) (take n endpoints)) where
@@ -66,7 +66,7 @@ module _ (n : ℕ) (endpoints owners attached domains : List ℕ) (l : List Mapp
   unfolding decided
   decides-unattached h f = rw (sym at, lt-ltb i n h, ne-eqb (getD attached i 0) 1 f)
 
-  pub decides-answer : i < n → getD attached i 0 ≡ 1 → (key : ℕ) (a : Answer) → key ≡ getD owners i 0 * domainSpan + getD domains i 0 → a ≡ answerOf x (lookup key x k l) → a ≡ decided n endpoints owners attached domains l e x k
+  pub decides-answer : i < n → getD attached i 0 ≡ 1 → (key : ℕ) (a : Answer) → key ≡ getD owners i 0 * domainSpan + getD domains i 0 → a ≡ answerOf x (findMapping key x k l) → a ≡ decided n endpoints owners attached domains l e x k
   unfolding decided
   decides-answer h f key a q r = rw (sym at, lt-ltb i n h, eq-eqb (getD attached i 0) 1 f, sym q) r
 
@@ -101,7 +101,7 @@ module _ (s : State) (e : Endpoint) (x k : ℕ) (a : Answer) (reason : ℕ) (is 
   unfolding accessed
   logs-nothing h = rw (sym is, eq-eqb reason 0 h)
 
-  pub logs-fault : (reason ≡ 0 → ⊥) → (i owner : ℕ) (f : Fault) (t : State) → i ≡ placeOf s e → owner ≡ getD (s .owners) i 0 → f ≡ faultOf reason e x k → t ≡ faultLogged s owner f → t ≡ accessed s e x k a
+  pub logs-fault : (reason ≡ 0 → ⊥) → (i owner : ℕ) (f : Fault) (t : State) → i ≡ placeOfEndpoint s e → owner ≡ getD (s .owners) i 0 → f ≡ faultOf reason e x k → t ≡ faultLogged s owner f → t ≡ accessed s e x k a
   unfolding accessed
   logs-fault h i owner f t p q r u = rw (sym is, ne-eqb reason 0 h, sym p, sym q, sym r) u
 

@@ -22,13 +22,13 @@ use Rattle.rules.specs.declared.Mapping.{Mapping}
 use Rattle.rules.specs.declared.Answer.{Answer}
 use Rattle.rules.specs.declared.Answer.the-variants.{Done, Served, Fetched, NoSuchGuest, Unsound}
 use Rattle.rules.specs.Sizes.{maxGuests, maxEndpoints, maxRecords, maxFaults, faultSize}
-use Rattle.rules.specs.Configuration.{first, last, good}
+use Rattle.rules.specs.Configuration.{windowFirst, windowLast, good}
 use Rattle.rules.specs.Table.{records}
 use Rattle.rules.specs.State.{World, Device, configOf, read}
 use Rattle.rules.specs.Guests.{own, part, recordsOf}
 use Rattle.rules.specs.Requests.{ATTACH, UNMAP, requestRefusals, typeOf, writableLength, domainField, endpointField, attachReserved}
 use Rattle.rules.specs.Handlers.{outside, formSteps}
-use Rattle.rules.specs.Access.{permits, lookup}
+use Rattle.rules.specs.Access.{permits, findMapping}
 use Rattle.rules.specs.Sound.{guest, sound}
 use Rattle.rules.specs.Device.{request, access-by, reset-of, fetch-for, Reply, refused, step}
 use Rattle.rules.proofs.Parts.{outside-high, record-form, recordOk}
@@ -147,12 +147,12 @@ module _ (s : State) (ws : List ℕ) (h : sound (device s ws) ≡ true) (k : Sha
   whole = sound-whole (device s ws) h
 
   -- every record's last address is one of 64 bits
-  module _ (wide : (i : ℕ) → last (s .settings) i ≤ 18446744073709551615) where
+  module _ (wide : (i : ℕ) → windowLast (s .settings) i ≤ 18446744073709551615) where
     form-lands : (n : ℕ) (r : Mapping) → Clear (formSteps (own (configOf s) (guest n)) r) → leb (r .phys + r .end - r .start) 18446744073709551615 ≡ true
     unfolding formSteps own configOf
     form-lands n r f =
-        let a = first (s .settings) n in
-        let b = last (s .settings) n in
+        let a = windowFirst (s .settings) n in
+        let b = windowLast (s .settings) n in
         le-leb (r .phys + r .end - r .start) 18446744073709551615 (omega (arith, outside-high a b (r .phys + r .end - r .start) (nor (outside a b (r .phys)) (outside a b (r .phys + r .end - r .start)) (f .1 .1 .1 .1 .0) .1), wide n))
 
     all-land : all? (λ r. leb (r .phys + r .end - r .start) 18446744073709551615) (read (device s ws) .records) ≡ true
@@ -160,9 +160,9 @@ module _ (s : State) (ws : List ℕ) (h : sound (device s ws) ≡ true) (k : Sha
         all-guests (configOf s .settings .guests) (λ n r. leb (r .phys + r .end - r .start) 18446744073709551615) (read (device s ws) .records) (whole .guests)
         (λ n l. unfold part in all-imp (recordOk (own (configOf s) (guest n)) (part (configOf s) (guest n) (read (device s ws)) .attachments)) (λ r. leb (r .phys + r .end - r .start) 18446744073709551615) (recordsOf (guest n) (read (device s ws) .records)) (λ r o. form-lands n r (record-form (own (configOf s) (guest n)) (part (configOf s) (guest n) (read (device s ws)) .attachments) r o)) (whole .parts (guest n) l .records))
 
-    pub lands-fit : (x kind key : ℕ) (r : Mapping) → lookup key x kind (take (s .live) (records ws)) ≡ some r → x - r .start + r .phys ≤ 18446744073709551615
+    pub lands-fit : (x kind key : ℕ) (r : Mapping) → findMapping key x kind (take (s .live) (records ws)) ≡ some r → x - r .start + r .phys ≤ 18446744073709551615
     lands-fit x kind key r e =
-        let q = found (permits key x kind) (λ y. leb (y .phys + y .end - y .start) 18446744073709551615) (take (s .live) (records ws)) r (unfold lookup in e) (unfold read in all-land) in
+        let q = found (permits key x kind) (λ y. leb (y .phys + y .end - y .start) 18446744073709551615) (take (s .live) (records ws)) r (unfold findMapping in e) (unfold read in all-land) in
         let v = permits-covers key x kind r (q .0) in
         omega (arith, v .from, v .to, leb-true (r .phys + r .end - r .start) 18446744073709551615 (q .1))
 

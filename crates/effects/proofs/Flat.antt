@@ -12,7 +12,7 @@ use Rattle.laws.proofs.Tests.{both, both-left, both-right}
 use Rattle.laws.proofs.Filters.{all-imp, all-kept, keep-all, keep-none, keep-append, keep-keep, any-keep}
 use Rattle.rules.specs.declared.Guest.{Guest}
 use Rattle.rules.specs.declared.Mapping.{Mapping}
-use Rattle.rules.specs.Table.{guestOf, before, insert}
+use Rattle.rules.specs.Table.{guestOf, before, insertMapping}
 use Rattle.rules.specs.Guests.{recordsOf, withRecordsOf}
 use Rattle.rules.proofs.Records.{before-cases, before-guest, mine}
 
@@ -90,26 +90,26 @@ with-kept g q l h =
     mids = keep-keep kept (mine g) (λ r. mine g r && q r) l both-mine ∙ sym (keep-keep q (mine g) (λ r. mine g r && q r) l (λ r. refl))
 
 -- a record put in
-insert-after : (r : Mapping) (a m : List Mapping) → all? (λ s. not (before r s)) a ≡ true → insert r (a ++ m) ≡ a ++ insert r m
+insert-after : (r : Mapping) (a m : List Mapping) → all? (λ s. not (before r s)) a ≡ true → insertMapping r (a ++ m) ≡ a ++ insertMapping r m
 insert-after r [] m h = refl
 insert-after r (s ∷ a) m h = rw (not-true (before r s) (both-left (not (before r s)) _ h)) (ap (λ l. s ∷ l) (insert-after r a m (both-right (not (before r s)) _ h)))
 
-insert-first : (r : Mapping) (c : List Mapping) → all? (before r) c ≡ true → insert r c ≡ r ∷ c
+insert-first : (r : Mapping) (c : List Mapping) → all? (before r) c ≡ true → insertMapping r c ≡ r ∷ c
 insert-first r [] h = refl
 insert-first r (s ∷ c) h = rw (both-left (before r s) _ h)
 
-insert-before : (r : Mapping) (b c : List Mapping) → all? (before r) c ≡ true → insert r (b ++ c) ≡ insert r b ++ c
+insert-before : (r : Mapping) (b c : List Mapping) → all? (before r) c ≡ true → insertMapping r (b ++ c) ≡ insertMapping r b ++ c
 insert-before r [] c h = insert-first r c h
 insert-before r (s ∷ b) c h = go (before r s) (insert-before r b c h)
   where
-    go : (t : Bool) → insert r (b ++ c) ≡ insert r b ++ c → cond t (r ∷ s ∷ (b ++ c)) (s ∷ insert r (b ++ c)) ≡ cond t (r ∷ s ∷ b) (s ∷ insert r b) ++ c
+    go : (t : Bool) → insertMapping r (b ++ c) ≡ insertMapping r b ++ c → cond t (r ∷ s ∷ (b ++ c)) (s ∷ insertMapping r (b ++ c)) ≡ cond t (r ∷ s ∷ b) (s ∷ insertMapping r b) ++ c
     go true i = refl
     go false i = ap (λ l. s ∷ l) i
 
-pub with-inserted : (g : Guest) (r : Mapping) (l : List Mapping) → guestOf r ≡ g .0 → pairwise before l ≡ true → withRecordsOf g (insert r (recordsOf g l)) l ≡ insert r l
+pub with-inserted : (g : Guest) (r : Mapping) (l : List Mapping) → guestOf r ≡ g .0 → pairwise before l ≡ true → withRecordsOf g (insertMapping r (recordsOf g l)) l ≡ insertMapping r l
 unfolding withRecordsOf
 with-inserted g r l e h =
-    sym (ap (λ m. insert r m) (sym (three-parts g l h))
+    sym (ap (λ m. insertMapping r m) (sym (three-parts g l h))
     ∙ insert-after r (keep (lower g) l) (keep (mine g) l ++ keep (higher g) l) (all-imp (lower g) (λ s. not (before r s)) (keep (lower g) l) (λ s k. rw (not-before r s (omega (arith, e, ltb-true (guestOf s) (g .0) k)))) (all-kept (lower g) l))
     ∙ ap (λ m. keep (lower g) l ++ m) (insert-before r (keep (mine g) l) (keep (higher g) l) (all-imp (higher g) (before r) (keep (higher g) l) (λ s k. before-guest r s (omega (arith, e, ltb-true (g .0) (guestOf s) k))) (all-kept (higher g) l))))
 

@@ -18,7 +18,7 @@ use Rattle.rules.specs.declared.State.{State}
 use Rattle.rules.specs.declared.Fault.{Fault}
 use Rattle.rules.specs.Sizes.{maxGuests, maxEndpoints, maxFaults, maxLost, faultPlaces}
 use Rattle.rules.specs.Configuration.{Config}
-use Rattle.rules.specs.State.{Attachment, Log, World, noFault, noLog, flagOf, numberOf, logOf, placed, stateOf}
+use Rattle.rules.specs.State.{Attachment, Log, World, noFault, noLog, flagOf, numberOf, logOf, faultPlaced, stateOf}
 use Rattle.rules.specs.Guests.{own, part}
 use Rattle.rules.specs.Access.{logged, fetchedFrom}
 use Rattle.rules.specs.Sound.{guest}
@@ -56,19 +56,19 @@ module _ (w : World) (g : ℕ) (l : Log) (h : g < length (w .logs)) where
       go i false x = sym (ap q (other-log w g l i (eqb-false i g x)))
 
   -- a fault placed in another guest's log
-  other-place : (i : ℕ) → (i / maxFaults ≡ g → ⊥) → placed next i ≡ placed w i
+  other-place : (i : ℕ) → (i / maxFaults ≡ g → ⊥) → faultPlaced next i ≡ faultPlaced w i
   unfolding next
   other-place i n = ap (λ (x : Log). getD (x .faults) (i % maxFaults) noFault) (other-log w g l (i / maxFaults) n)
 
-  own-place : (i : ℕ) → i / maxFaults ≡ g → placed next i ≡ getD (l .faults) (i % maxFaults) noFault
+  own-place : (i : ℕ) → i / maxFaults ≡ g → faultPlaced next i ≡ getD (l .faults) (i % maxFaults) noFault
   unfolding next
   own-place i e = ap (λ (x : Log). getD (x .faults) (i % maxFaults) noFault) (ap (λ k. logOf (withLogs (set (w .logs) g l) w) k) e ∙ same-log w g l h)
 
   -- the faults' fields where guest g's faults are those of before
-  same-faults : (q : Fault → ℕ) → l .faults ≡ logOf w g .faults → tab faultPlaces (λ i. q (placed w i)) ≡ tab faultPlaces (λ i. q (placed next i))
+  same-faults : (q : Fault → ℕ) → l .faults ≡ logOf w g .faults → tab faultPlaces (λ i. q (faultPlaced w i)) ≡ tab faultPlaces (λ i. q (faultPlaced next i))
   same-faults q e = tab-same faultPlaces _ _ (λ i m. go i (eqb (i / maxFaults) g) refl)
     where
-      go : (i : ℕ) (b : Bool) → eqb (i / maxFaults) g ≡ b → q (placed w i) ≡ q (placed next i)
+      go : (i : ℕ) (b : Bool) → eqb (i / maxFaults) g ≡ b → q (faultPlaced w i) ≡ q (faultPlaced next i)
       go i true x = ap q (ap (λ k. getD (logOf w k .faults) (i % maxFaults) noFault) (eqb-true _ g x) ∙ ap (λ (y : List Fault). getD y (i % maxFaults) noFault) (sym e) ∙ sym (own-place i (eqb-true _ g x)))
       go i false x = ap q (sym (other-place i (eqb-false _ g x)))
 
@@ -93,7 +93,7 @@ module _ (c : Config) (w : World) (h : Whole c w) (g : ℕ) (m : g < c .settings
   abbrev more : Fault → Log
   more f = record { faults = logOf w g .faults ++ (f ∷ []); lost = logOf w g .lost }
 
-  stored : (f : Fault) (q : Fault → ℕ) → length (logOf w g .faults) < maxFaults → set (tab faultPlaces (λ i. q (placed w i))) (maxFaults * g + length (logOf w g .faults)) (q f) ≡ tab faultPlaces (λ i. q (placed (next w g (more f) there) i))
+  stored : (f : Fault) (q : Fault → ℕ) → length (logOf w g .faults) < maxFaults → set (tab faultPlaces (λ i. q (faultPlaced w i))) (maxFaults * g + length (logOf w g .faults)) (q f) ≡ tab faultPlaces (λ i. q (faultPlaced (next w g (more f) there) i))
   stored f q r = set-tab faultPlaces _ _ at (q f) (ap q (own-place w g (more f) there at which ∙ ap (λ n. getD (logOf w g .faults ++ (f ∷ [])) n noFault) slot ∙ getD-append-seam (logOf w g .faults) f [] noFault)) (λ j k n. ap q (go j n (eqb (j / maxFaults) g) refl))
     where
       at : ℕ
@@ -109,7 +109,7 @@ module _ (c : Config) (w : World) (h : Whole c w) (g : ℕ) (m : g < c .settings
       mid j n true x = List·getD-append (logOf w g .faults) (f ∷ []) noFault (j % maxFaults) (ltb-true _ _ x)
       mid j n false x = List·getD-eq-default (logOf w g .faults ++ (f ∷ [])) noFault (simp length-append (omega (arith, ltb-false))) ∙ sym (List·getD-eq-default (logOf w g .faults) noFault (ltb-false _ _ x))
 
-      go : (j : ℕ) → (j ≡ at → ⊥) → (b : Bool) → eqb (j / maxFaults) g ≡ b → placed (next w g (more f) there) j ≡ placed w j
+      go : (j : ℕ) → (j ≡ at → ⊥) → (b : Bool) → eqb (j / maxFaults) g ≡ b → faultPlaced (next w g (more f) there) j ≡ faultPlaced w j
       go j n true x =
           own-place w g (more f) there j (eqb-true _ g x)
           ∙ mid j (λ e. n (let y : j / maxFaults ≡ g = eqb-true _ g x in omega (arith, e, y))) (ltb (j % maxFaults) (length (logOf w g .faults))) refl
@@ -176,35 +176,35 @@ module _ (c : Config) (w : World) (h : Whole c w) (g : ℕ) (m : g < c .settings
       rest : Log
       rest = record { faults = drop k (logOf w g .faults); lost = logOf w g .lost }
 
-      fewer : (q : Fault → ℕ) → q noFault ≡ 0 → shiftedAll g k (tab faultPlaces (λ i. q (placed w i))) ≡ tab faultPlaces (λ i. q (placed (next w g rest there) i))
+      fewer : (q : Fault → ℕ) → q noFault ≡ 0 → shiftedAll g k (tab faultPlaces (λ i. q (faultPlaced w i))) ≡ tab faultPlaces (λ i. q (faultPlaced (next w g rest there) i))
       fewer q z = tab-same faultPlaces _ _ (λ i l. unfold shifted in go i l (eqb (i / maxFaults) g) refl (ltb (i % maxFaults + k) maxFaults) refl)
         where
           all : List ℕ
-          all = tab faultPlaces (λ i. q (placed w i))
+          all = tab faultPlaces (λ i. q (faultPlaced w i))
 
           go : (i : ℕ) → i < faultPlaces → (a : Bool) → eqb (i / maxFaults) g ≡ a → (b : Bool) → ltb (i % maxFaults + k) maxFaults ≡ b
-              → cond a (cond b (getD all (i + k) 0) 0) (getD all i 0) ≡ q (placed (next w g rest there) i)
+              → cond a (cond b (getD all (i + k) 0) 0) (getD all i 0) ≡ q (faultPlaced (next w g rest there) i)
           go i l true x true y =
               let same : i / maxFaults ≡ g = eqb-true _ g x in
               let inner : i % maxFaults + k < maxFaults = ltb-true _ _ y in
               let which : (i + k) / maxFaults ≡ g = omega (arith, same, inner) in
               let slot : (i + k) % maxFaults ≡ k + i % maxFaults = omega (arith, same, inner) in
-              getD-tab faultPlaces (λ j. q (placed w j)) (i + k) 0 (omega (arith, l, same, inner))
+              getD-tab faultPlaces (λ j. q (faultPlaced w j)) (i + k) 0 (omega (arith, l, same, inner))
               ∙ ap q (ap (λ n. getD (logOf w n .faults) ((i + k) % maxFaults) noFault) which ∙ ap (λ n. getD (logOf w g .faults) n noFault) slot ∙ sym (getD-drop k (logOf w g .faults) (i % maxFaults) noFault) ∙ sym (own-place w g rest there i same))
           go i l true x false y =
               let same : i / maxFaults ≡ g = eqb-true _ g x in
               sym z ∙ ap q (sym (own-place w g rest there i same ∙ List·getD-eq-default (drop k (logOf w g .faults)) noFault (simp length-drop (omega (arith, room, ltb-false)))))
-          go i l false x b y = getD-tab faultPlaces (λ j. q (placed w j)) i 0 l ∙ ap q (sym (other-place w g rest there i (eqb-false _ g x)))
+          go i l false x b y = getD-tab faultPlaces (λ j. q (faultPlaced w j)) i 0 l ∙ ap q (sym (other-place w g rest there i (eqb-false _ g x)))
 
   -- A GUEST CLEARED
 
-  cleared-faults : (q : Fault → ℕ) → q noFault ≡ 0 → shiftedAll g maxFaults (tab faultPlaces (λ i. q (placed w i))) ≡ tab faultPlaces (λ i. q (placed (next w g noLog there) i))
+  cleared-faults : (q : Fault → ℕ) → q noFault ≡ 0 → shiftedAll g maxFaults (tab faultPlaces (λ i. q (faultPlaced w i))) ≡ tab faultPlaces (λ i. q (faultPlaced (next w g noLog there) i))
   cleared-faults q z = tab-same faultPlaces _ _ (λ i l. unfold shifted in go i l (eqb (i / maxFaults) g) refl)
     where
       go : (i : ℕ) → i < faultPlaces → (a : Bool) → eqb (i / maxFaults) g ≡ a
-          → cond a (cond (ltb (i % maxFaults + maxFaults) maxFaults) (getD (tab faultPlaces (λ i. q (placed w i))) (i + maxFaults) 0) 0) (getD (tab faultPlaces (λ i. q (placed w i))) i 0) ≡ q (placed (next w g noLog there) i)
+          → cond a (cond (ltb (i % maxFaults + maxFaults) maxFaults) (getD (tab faultPlaces (λ i. q (faultPlaced w i))) (i + maxFaults) 0) 0) (getD (tab faultPlaces (λ i. q (faultPlaced w i))) i 0) ≡ q (faultPlaced (next w g noLog there) i)
       go i l true x = rw (le-ltb (i % maxFaults + maxFaults) maxFaults (omega arith)) (sym z ∙ ap q (sym (own-place w g noLog there i (eqb-true _ g x))))
-      go i l false x = getD-tab faultPlaces (λ j. q (placed w j)) i 0 l ∙ ap q (sym (other-place w g noLog there i (eqb-false _ g x)))
+      go i l false x = getD-tab faultPlaces (λ j. q (faultPlaced w j)) i 0 l ∙ ap q (sym (other-place w g noLog there i (eqb-false _ g x)))
 
   cleared-places : (q : Attachment → ℕ) → q none ≡ 0
       → zeroedOf (length (c .endpoints)) g (tab maxEndpoints (λ i. getD (c .owners) i 0)) (tab maxEndpoints (λ i. q (getD (w .attachments) i none)))

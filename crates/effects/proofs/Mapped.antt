@@ -17,7 +17,7 @@ use Rattle.rules.specs.declared.Domain.{Domain}
 use Rattle.rules.specs.declared.Settings.{Settings}
 use Rattle.rules.specs.declared.State.{State}
 use Rattle.rules.specs.declared.Mapping.{Mapping}
-use Rattle.rules.specs.Configuration.{share, first, last}
+use Rattle.rules.specs.Configuration.{share, windowFirst, windowLast}
 use Rattle.rules.specs.Table.{keyOf, records, overlap}
 use Rattle.rules.specs.Guests.{recordsOf}
 use Rattle.rules.specs.Requests.{OK, INVAL, RANGE, NOENT, FAULT, NOMEM}
@@ -59,11 +59,11 @@ module _ (s : Settings) (g : Guest) (r : Mapping) where
 
   pub form-rest : (x : ℕ) (a i j w : Bool) → r .flags ≤ 3 → r .start < r .end → a ≡ (eqb (r .start % granularity (s .mask)) 0 && eqb ((r .end + 1) % granularity (s .mask)) 0)
       → i ≡ outside (s .input .start) (s .input .end) (r .start) → j ≡ outside (s .input .start) (s .input .end) (r .end)
-      → w ≡ (leb (r .start) (r .end) && (leb (first s (g .0)) (r .phys) && leb (r .phys + r .end - r .start) (last s (g .0)))) → x ≡ firstOf ((not a, RANGE) ∷ (i || j, RANGE) ∷ (not w, FAULT) ∷ []) → x ≡ formStatus s g r
+      → w ≡ (leb (r .start) (r .end) && (leb (windowFirst s (g .0)) (r .phys) && leb (r .phys + r .end - r .start) (windowLast s (g .0)))) → x ≡ firstOf ((not a, RANGE) ∷ (i || j, RANGE) ∷ (not w, FAULT) ∷ []) → x ≡ formStatus s g r
   unfolding formStatus
   form-rest x a i j w f h ea ei ej ew e =
       e
-      ∙ rw (le-ltb 3 (r .flags) f, lt-leb (r .end) (r .start) h, ea, ei, ej, ew, window-out (first s (g .0)) (last s (g .0)) (r .phys) (r .start) (r .end) (omega arith), neither (eqb (r .start % granularity (s .mask)) 0) (eqb ((r .end + 1) % granularity (s .mask)) 0))
+      ∙ rw (le-ltb 3 (r .flags) f, lt-leb (r .end) (r .start) h, ea, ei, ej, ew, window-out (windowFirst s (g .0)) (windowLast s (g .0)) (r .phys) (r .start) (r .end) (omega arith), neither (eqb (r .start % granularity (s .mask)) 0) (eqb ((r .end + 1) % granularity (s .mask)) 0))
 
 module _ (s : State) (ws : List ℕ) (g : Guest) (d : Domain) where
   pub map-steps : (r : Mapping) (x f n m : ℕ) (b o : Bool) → b ≡ existsFlat s g d → f ≡ formStatus (s .settings) g r → o ≡ any? (overlap r) (take (s .live) (records ws)) → n ≡ length (recordsOf g (take (s .live) (records ws)))

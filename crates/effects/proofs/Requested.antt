@@ -21,11 +21,11 @@ use Rattle.rules.specs.declared.State.{State}
 use Rattle.rules.specs.declared.Fault.{Fault}
 use Rattle.rules.specs.Sizes.{domainSpan, maxEndpoints, maxRecords}
 use Rattle.rules.specs.Configuration.{Config, share, listTests, goodSettings, goodLists, good}
-use Rattle.rules.specs.Table.{keyOf, guestOf, overlap, insert, records}
+use Rattle.rules.specs.Table.{keyOf, guestOf, overlap, insertMapping, records}
 use Rattle.rules.specs.State.{Attachment, Log, World, Device, noLog, configOf, read, flagOf, numberOf, stateOf, write}
 use Rattle.rules.specs.Guests.{Part, own, part, replace, recordsOf, withRecordsOf, withRecords, withLog}
 use Rattle.rules.specs.Requests.{OK, INVAL, RANGE, NOENT, NOMEM}
-use Rattle.rules.specs.Handlers.{outside, isIn, exists, listed, attachmentOf, ofKey, without, leave, enter, moveFrom, attached, attachSteps, attach, detachSteps, detach, formSteps, recordSteps, mapSteps, addMapping, inside, straddles, unmapSteps, unmap}
+use Rattle.rules.specs.Handlers.{outside, isIn, exists, listed, attachmentOf, ofKey, without, leave, enter, moveFrom, attached, attachSteps, handleAttach, detachSteps, handleDetach, formSteps, recordSteps, mapSteps, handleMap, inside, straddles, unmapSteps, handleUnmap}
 use Rattle.rules.specs.Access.{reset, logged, fetchedFrom}
 use Rattle.rules.specs.Sound.{guest, sound}
 use Rattle.rules.specs.Device.{ownerOf, is}
@@ -42,7 +42,7 @@ use Rattle.logging.specs.Changes.{faultLogged}
 use Rattle.dropping.specs.Changes.{faultsDropped}
 use Rattle.resets.specs.Changes.{guestCleared}
 use Rattle.attachments.specs.Search.{indexOf}
-use Rattle.effects.specs.Flat.{device, worked, topAddress, placeOf, ownedAt, isAttached, existsFlat, liveRecords, removed, inserted, left, entered, moved, firstOf, settled, attachStatus, attachFlat, detachStatus, detachFlat, formStatus, mapStatus, mapFlat, unmapStatus, unmapFlat, resetFlat}
+use Rattle.effects.specs.Flat.{device, worked, topAddress, placeOfEndpoint, ownedAt, isAttached, existsFlat, liveRecords, removed, inserted, left, entered, moved, firstOf, settled, attachStatus, attachFlat, detachStatus, detachFlat, formStatus, mapStatus, mapFlat, unmapStatus, unmapFlat, resetFlat}
 use Rattle.effects.proofs.Flat.{with-kept, with-inserted, any-of}
 use Rattle.effects.proofs.Places.{owner-at, listed-owned}
 use Rattle.effects.proofs.Written.{withRecs, withLogs, exists-written, removed-written, inserted-written}
@@ -71,14 +71,14 @@ module _ (c : Config) (k : kept c ≡ c) (w : World) (h : Whole c w) (g : Guest)
   unfolding write stateOf kept
   settings-is = ap (λ (x : Config). x .settings) k
 
-  pub place-is : (e : Endpoint) → placeOf (write c w .state) e ≡ indexOf (e .0) (c .endpoints)
+  pub place-is : (e : Endpoint) → placeOfEndpoint (write c w .state) e ≡ indexOf (e .0) (c .endpoints)
   unfolding write configOf kept
   place-is e = ap (λ (x : Config). indexOf (e .0) (x .endpoints)) (config-back c w good-c)
 
   distinct : pairwise (λ a b. not (eqb a b)) (c .endpoints) ≡ true
   distinct = unfold good goodLists in opened (listTests (c .settings) (c .endpoints) (c .owners)) (both-right (goodSettings (c .settings)) (goodLists (c .settings) (c .endpoints) (c .owners)) (h .config)) .1 .1 .1 .0
 
-  owned-is : (e : Endpoint) → ownedAt (write c w .state) g (placeOf (write c w .state) e) ≡ listed e (own c g .endpoints)
+  owned-is : (e : Endpoint) → ownedAt (write c w .state) g (placeOfEndpoint (write c w .state) e) ≡ listed e (own c g .endpoints)
   owned-is e =
       rw (place-is e)
       (sym (unfold own in (listed-owned e g (c .endpoints) (c .owners) (sym (good-c .sizes)) distinct ∙ ap (λ (x : Option Guest). is g x) (owner-at e (c .endpoints) (c .owners) (sym (good-c .sizes)))) ∙ go (ltb (indexOf (e .0) (c .endpoints)) (length (c .endpoints))) refl))
@@ -125,30 +125,30 @@ module _ (c : Config) (k : kept c ≡ c) (w : World) (h : Whole c w) (g : Guest)
       go none x = unfold isIn moveFrom in entered-written c k w h g m e owner dom
       go (some was) x = unfold isIn moveFrom in other was x (eqb (was .0) (dom .0))
 
-  attach-status : (dom : Domain) (e : Endpoint) (z : ℕ) → attachStatus (write c w .state) g dom (placeOf (write c w .state) e) z ≡ firstOf (attachSteps (own c g) dom e z)
+  attach-status : (dom : Domain) (e : Endpoint) (z : ℕ) → attachStatus (write c w .state) g dom (placeOfEndpoint (write c w .state) e) z ≡ firstOf (attachSteps (own c g) dom e z)
   unfolding attachStatus
   attach-status dom e z =
       ap (λ b. firstOf ((not (eqb z 0), INVAL) ∷ (not b, NOENT) ∷ (outside (write c w .state .settings .domains .start) (write c w .state .settings .domains .end) (dom .0), RANGE) ∷ [])) (owned-is e)
       ∙ ap (λ (s : Settings). firstOf ((not (eqb z 0), INVAL) ∷ (not (listed e (own c g .endpoints)), NOENT) ∷ (outside (s .domains .start) (s .domains .end) (dom .0), RANGE) ∷ [])) settings-is
       ∙ unfold own in refl
 
-  pub attach-written : (dom : Domain) (e : Endpoint) (z : ℕ) → attachFlat (write c w) g dom e z ≡ worked (attach (own c g) (part c g w) dom e z .0) (write c (replace c g (attach (own c g) (part c g w) dom e z .1) w))
-  unfolding attachFlat attach
+  pub attach-written : (dom : Domain) (e : Endpoint) (z : ℕ) → attachFlat (write c w) g dom e z ≡ worked (handleAttach (own c g) (part c g w) dom e z .0) (write c (replace c g (handleAttach (own c g) (part c g w) dom e z .1) w))
+  unfolding attachFlat handleAttach
   attach-written dom e z =
-      ap (λ n. settled n (write c w) (moved (write c w) g (placeOf (write c w .state) e) dom)) (attach-status dom e z)
-      ∙ settled-written c w g (attachSteps (own c g) dom e z) (write c w) (moved (write c w) g (placeOf (write c w .state) e) dom) (part c g w) (attached (own c g) e dom (part c g w)) refl same-world
+      ap (λ n. settled n (write c w) (moved (write c w) g (placeOfEndpoint (write c w .state) e) dom)) (attach-status dom e z)
+      ∙ settled-written c w g (attachSteps (own c g) dom e z) (write c w) (moved (write c w) g (placeOfEndpoint (write c w .state) e) dom) (part c g w) (attached (own c g) e dom (part c g w)) refl same-world
       (λ y. ap (λ n. moved (write c w) g n dom) (place-is e) ∙ moved-written e dom (owner-of e (not-false _ (y .1 .0))))
 
   -- DETACH
 
-  detach-status : (dom : Domain) (e : Endpoint) (z : ℕ) → detachStatus (write c w .state) g dom (placeOf (write c w .state) e) z ≡ firstOf (detachSteps (own c g) (part c g w) dom e z)
+  detach-status : (dom : Domain) (e : Endpoint) (z : ℕ) → detachStatus (write c w .state) g dom (placeOfEndpoint (write c w .state) e) z ≡ firstOf (detachSteps (own c g) (part c g w) dom e z)
   unfolding detachStatus
   detach-status dom e z =
       ap (λ b. firstOf ((not (eqb z 0), INVAL) ∷ (not b, NOENT) ∷ (not there, INVAL) ∷ [])) (owned-is e)
       ∙ go (listed e (own c g .endpoints)) refl
     where
       there : Bool
-      there = isAttached (write c w .state) (placeOf (write c w .state) e) && eqb (getD (write c w .state .domains) (placeOf (write c w .state) e) 0) (dom .0)
+      there = isAttached (write c w .state) (placeOfEndpoint (write c w .state) e) && eqb (getD (write c w .state .domains) (placeOfEndpoint (write c w .state) e) 0) (dom .0)
 
       go : (b : Bool) → listed e (own c g .endpoints) ≡ b → firstOf ((not (eqb z 0), INVAL) ∷ (not b, NOENT) ∷ (not there, INVAL) ∷ []) ≡ firstOf ((not (eqb z 0), INVAL) ∷ (not b, NOENT) ∷ (not (isIn dom (attachmentOf e (own c g .endpoints) (part c g w .attachments))), INVAL) ∷ [])
       go true x =
@@ -156,11 +156,11 @@ module _ (c : Config) (k : kept c ≡ c) (w : World) (h : Whole c w) (g : Guest)
           (ap (λ n. isAttached (write c w .state) n && eqb (getD (write c w .state .domains) n 0) (dom .0)) (place-is e) ∙ in-domain c k w h g m e (owner-of e x) dom)
       go false x = refl
 
-  pub detach-written : (dom : Domain) (e : Endpoint) (z : ℕ) → detachFlat (write c w) g dom e z ≡ worked (detach (own c g) (part c g w) dom e z .0) (write c (replace c g (detach (own c g) (part c g w) dom e z .1) w))
-  unfolding detachFlat detach
+  pub detach-written : (dom : Domain) (e : Endpoint) (z : ℕ) → detachFlat (write c w) g dom e z ≡ worked (handleDetach (own c g) (part c g w) dom e z .0) (write c (replace c g (handleDetach (own c g) (part c g w) dom e z .1) w))
+  unfolding detachFlat handleDetach
   detach-written dom e z =
-      ap (λ n. settled n (write c w) (left (write c w) g (placeOf (write c w .state) e) dom)) (detach-status dom e z)
-      ∙ settled-written c w g (detachSteps (own c g) (part c g w) dom e z) (write c w) (left (write c w) g (placeOf (write c w .state) e) dom) (part c g w) (leave (own c g) e dom (part c g w)) refl same-world
+      ap (λ n. settled n (write c w) (left (write c w) g (placeOfEndpoint (write c w .state) e) dom)) (detach-status dom e z)
+      ∙ settled-written c w g (detachSteps (own c g) (part c g w) dom e z) (write c w) (left (write c w) g (placeOfEndpoint (write c w .state) e) dom) (part c g w) (leave (own c g) e dom (part c g w)) refl same-world
       (λ y. ap (λ n. left (write c w) g n dom) (place-is e) ∙ left-written c k w h g m e (owner-of e (not-false _ (y .1 .0))) dom (in-here e dom (not-false _ (y .1 .1 .0))))
     where
       in-here : (e : Endpoint) (dom : Domain) → isIn dom (attachmentOf e (own c g .endpoints) (part c g w .attachments)) ≡ true → dom .0 < domainSpan
@@ -224,20 +224,20 @@ module _ (c : Config) (k : kept c ≡ c) (w : World) (h : Whole c w) (g : Guest)
       (subst (λ (x : Config). g .0 < x .settings .guests) (sym config-is) m)
       (subst (λ (x : Config). length (part x g (read (write c w)) .records) < share (x .settings) (g .0)) (sym config-is) (rw (read-write c w h) (unfold own in l))))
 
-  pub map-written : (dom : Domain) (r : Mapping) → r .key ≡ keyOf g dom → mapFlat (write c w) g dom r ≡ worked (addMapping (own c g) (part c g w) dom r .0) (write c (replace c g (addMapping (own c g) (part c g w) dom r .1) w))
-  unfolding mapFlat addMapping
+  pub map-written : (dom : Domain) (r : Mapping) → r .key ≡ keyOf g dom → mapFlat (write c w) g dom r ≡ worked (handleMap (own c g) (part c g w) dom r .0) (write c (replace c g (handleMap (own c g) (part c g w) dom r .1) w))
+  unfolding mapFlat handleMap
   map-written dom r e =
       ap (λ n. settled n (write c w) (inserted (write c w) r)) (map-status dom r e)
-      ∙ settled-written c w g (mapSteps (own c g) (part c g w) dom r) (write c w) (inserted (write c w) r) (part c g w) (withRecords (insert r (part c g w .records)) (part c g w)) (unfold formSteps in refl) same-world go
+      ∙ settled-written c w g (mapSteps (own c g) (part c g w) dom r) (write c w) (inserted (write c w) r) (part c g w) (withRecords (insertMapping r (part c g w .records)) (part c g w)) (unfold formSteps in refl) same-world go
     where
-      go : Clear (mapSteps (own c g) (part c g w) dom r) → inserted (write c w) r ≡ write c (replace c g (withRecords (insert r (part c g w .records)) (part c g w)) w)
+      go : Clear (mapSteps (own c g) (part c g w) dom r) → inserted (write c w) r ≡ write c (replace c g (withRecords (insertMapping r (part c g w .records)) (part c g w)) w)
       go y =
           let lo = clear-left (recordSteps (own c g) (part c g w .attachments) dom r) _ y in
           let hi = clear-right (recordSteps (own c g) (part c g w .attachments) dom r) _ y in
           let ex = not-false (exists dom (part c g w .attachments)) (lo .0) in
           let guest-is = of-key-mine g dom r (existing-small dom ex) (unfold ofKey in eq-eqb (r .key) (keyOf g dom) e) in
           inserted-written c w r (room (leb-false (own c g .share) (length (part c g w .records)) (hi .1 .0)))
-          ∙ sym (ap (λ (v : World). write c v) (replace-records c w h g (insert r (part c g w .records)) ∙ ap (λ (l : List Mapping). withRecs l w) (unfold part in with-inserted g r (w .records) guest-is (h .order))))
+          ∙ sym (ap (λ (v : World). write c v) (replace-records c w h g (insertMapping r (part c g w .records)) ∙ ap (λ (l : List Mapping). withRecs l w) (unfold part in with-inserted g r (w .records) guest-is (h .order))))
 
   straddle-is : (dom : Domain) (a b : ℕ) → dom .0 < domainSpan → any? (straddles (keyOf g dom) a b) (liveRecords (write c w)) ≡ any? (straddles (keyOf (own c g .guest) dom) a b) (part c g w .records)
   straddle-is dom a b s = ap (λ (l : List Mapping). any? (straddles (keyOf g dom) a b) l) live-is ∙ unfold own part in sym (any-of g (straddles (keyOf g dom) a b) (w .records) (λ x y. of-key-mine g dom x s (keyed x y)))
@@ -277,8 +277,8 @@ module _ (c : Config) (k : kept c ≡ c) (w : World) (h : Whole c w) (g : Guest)
           or-true true = refl
           or-true false = refl
 
-  pub unmap-written : (dom : Domain) (a b z : ℕ) → unmapFlat (write c w) g dom a b z ≡ worked (unmap (own c g) (part c g w) dom a b z .0) (write c (replace c g (unmap (own c g) (part c g w) dom a b z .1) w))
-  unfolding unmapFlat unmap
+  pub unmap-written : (dom : Domain) (a b z : ℕ) → unmapFlat (write c w) g dom a b z ≡ worked (handleUnmap (own c g) (part c g w) dom a b z .0) (write c (replace c g (handleUnmap (own c g) (part c g w) dom a b z .1) w))
+  unfolding unmapFlat handleUnmap
   unmap-written dom a b z =
       ap (λ n. settled n (write c w) (removed (write c w) (keyOf g dom) (keyOf g dom) a b)) (unmap-status dom a b z)
       ∙ settled-written c w g (unmapSteps (own c g) (part c g w) dom a b z) (write c w) (removed (write c w) (keyOf g dom) (keyOf g dom) a b) (part c g w) (withRecords (without (inside (keyOf (own c g .guest) dom) a b) (part c g w .records)) (part c g w)) refl same-world

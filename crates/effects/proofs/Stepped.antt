@@ -16,7 +16,7 @@ use Rattle.rules.specs.Configuration.{Config}
 use Rattle.rules.specs.State.{World, Device, configOf, read, write}
 use Rattle.rules.specs.Guests.{Own, Part, own, part, replace}
 use Rattle.rules.specs.Requests.{ATTACH, DETACH, MAP, requestRefusals, typeOf, domainField, endpointField, attachReserved, virtStart, virtEnd, unmapReserved}
-use Rattle.rules.specs.Handlers.{attach, detach, addMapping, unmap, askedFor, handle}
+use Rattle.rules.specs.Handlers.{handleAttach, handleDetach, handleMap, handleUnmap, askedFor, handle}
 use Rattle.rules.specs.Access.{reset}
 use Rattle.rules.specs.Sound.{sound}
 use Rattle.rules.specs.Device.{Call, request, reset-of, refused, requested, rule, caller, numbered, work, step}
@@ -88,7 +88,7 @@ module _ (d : Device) (h : sound d ≡ true) (k : Shaped (d .state)) where
     abbrev p : Part
     p = part (configOf (d .state)) g (read d)
 
-    map-here : (r : List ℕ) → mapFlat (write (configOf (d .state)) (read d)) g (domainField r) (recordOf g (domainField r) (mapFields r)) ≡ back (addMapping (own (configOf (d .state)) g) (part (configOf (d .state)) g (read d)) (domainField r) (askedFor (own (configOf (d .state)) g) r))
+    map-here : (r : List ℕ) → mapFlat (write (configOf (d .state)) (read d)) g (domainField r) (recordOf g (domainField r) (mapFields r)) ≡ back (handleMap (own (configOf (d .state)) g) (part (configOf (d .state)) g (read d)) (domainField r) (askedFor (own (configOf (d .state)) g) r))
     map-here r = unfold own in map-written (configOf (d .state)) kept-is (read d) whole g m (domainField r) (recordOf g (domainField r) (mapFields r)) refl
 
     pub handle-step : (r : List ℕ) → handled d g (asked r) ≡ back (handle (own (configOf (d .state)) g) (part (configOf (d .state)) g (read d)) r)
@@ -96,7 +96,7 @@ module _ (d : Device) (h : sound d ≡ true) (k : Shaped (d .state)) where
       where
         go : (t u v : Bool)
             → handled (write (configOf (d .state)) (read d)) g (cond t (Attach (domainField r) (endpointField r) (attachReserved r)) (cond u (Detach (domainField r) (endpointField r) (attachReserved r)) (cond v (Map (domainField r) (mapFields r)) (Unmap (domainField r) (unmapFields r)))))
-            ≡ back (cond t (attach (own (configOf (d .state)) g) (part (configOf (d .state)) g (read d)) (domainField r) (endpointField r) (attachReserved r)) (cond u (detach (own (configOf (d .state)) g) (part (configOf (d .state)) g (read d)) (domainField r) (endpointField r) (attachReserved r)) (cond v (addMapping (own (configOf (d .state)) g) (part (configOf (d .state)) g (read d)) (domainField r) (askedFor (own (configOf (d .state)) g) r)) (unmap (own (configOf (d .state)) g) (part (configOf (d .state)) g (read d)) (domainField r) (virtStart r) (virtEnd r) (unmapReserved r)))))
+            ≡ back (cond t (handleAttach (own (configOf (d .state)) g) (part (configOf (d .state)) g (read d)) (domainField r) (endpointField r) (attachReserved r)) (cond u (handleDetach (own (configOf (d .state)) g) (part (configOf (d .state)) g (read d)) (domainField r) (endpointField r) (attachReserved r)) (cond v (handleMap (own (configOf (d .state)) g) (part (configOf (d .state)) g (read d)) (domainField r) (askedFor (own (configOf (d .state)) g) r)) (handleUnmap (own (configOf (d .state)) g) (part (configOf (d .state)) g (read d)) (domainField r) (virtStart r) (virtEnd r) (unmapReserved r)))))
         go true u v = unfold handled in attach-written (configOf (d .state)) kept-is (read d) whole g m (domainField r) (endpointField r) (attachReserved r)
         go false true v = unfold handled in detach-written (configOf (d .state)) kept-is (read d) whole g m (domainField r) (endpointField r) (attachReserved r)
         go false false true = unfold handled in map-here r

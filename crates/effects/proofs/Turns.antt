@@ -17,7 +17,7 @@ use Rattle.removal.specs.Removed.{keptOf, removedWords}
 use Rattle.state.specs.Fields.{withLive}
 use Rattle.attachments.specs.Changes.{attachedAt}
 use Rattle.resets.specs.Changes.{guestCleared}
-use Rattle.effects.specs.Flat.{device, worked, settled, topAddress, placeOf, existsFlat, removed, left, entered, moved, attachStatus, attachFlat, detachStatus, detachFlat, resetFlat}
+use Rattle.effects.specs.Flat.{device, worked, settled, topAddress, placeOfEndpoint, existsFlat, removed, left, entered, moved, attachStatus, attachFlat, detachStatus, detachFlat, resetFlat}
 
 pub remove-turn : (s : State) (ws vs : List ℕ) (low high a b n : ℕ) → n ≡ length (keptOf (s .live) low high a b ws) → vs ≡ removedWords (s .live) low high a b ws → device (withLive n s) vs ≡ removed (device s ws) low high a b
 unfolding removed
@@ -52,7 +52,7 @@ settled-fails n m d e x h = rw (sym x, ne-eqb n 0 h)
 pub settled-works : (n m : ℕ) (d e f : Device) → n ≡ m → n ≡ 0 → f ≡ e → worked 0 f ≡ settled m d e
 settled-works n m d e f x h y = rw (sym x, h, y)
 
-module _ (s : State) (ws : List ℕ) (g : Guest) (dom : Domain) (e : Endpoint) (z i n : ℕ) (at : i ≡ placeOf s e) where
+module _ (s : State) (ws : List ℕ) (g : Guest) (dom : Domain) (e : Endpoint) (z i n : ℕ) (at : i ≡ placeOfEndpoint s e) where
   pub attach-fails : n ≡ attachStatus s g dom i z → (n ≡ 0 → ⊥) → worked n (device s ws) ≡ attachFlat (device s ws) g dom e z
   unfolding attachFlat
   attach-fails x h = settled-fails n _ (device s ws) _ (x ∙ ap (λ j. attachStatus s g dom j z) at) h

@@ -18,7 +18,7 @@ use Rattle.rules.specs.declared.State.{State}
 use Rattle.rules.specs.declared.Mapping.{Mapping}
 use Rattle.rules.specs.Sizes.{maxEndpoints, maxRecords}
 use Rattle.rules.specs.Configuration.{Config}
-use Rattle.rules.specs.Table.{insert, records, tableOf}
+use Rattle.rules.specs.Table.{insertMapping, records, tableOf}
 use Rattle.rules.specs.State.{Attachment, Log, World, flagOf, numberOf, stateOf, write}
 use Rattle.rules.specs.Handlers.{isIn, exists}
 use Rattle.rules.proofs.Worlds.{Good}
@@ -150,7 +150,7 @@ module _ (c : Config) (w : World) where
       live-is : stateOf c w .live ≡ length (w .records)
       live-is = unfold stateOf in refl
 
-  pub inserted-written : (r : Mapping) → length (w .records) < maxRecords → inserted (write c w) r ≡ write c (withRecs (insert r (w .records)) w)
+  pub inserted-written : (r : Mapping) → length (w .records) < maxRecords → inserted (write c w) r ≡ write c (withRecs (insertMapping r (w .records)) w)
   inserted-written r room =
       unfold inserted write in
       (rw (live-is, inserted-table r (w .records) room) (unfold stateOf in rw (length-insert r (w .records))))

@@ -17,13 +17,13 @@ use Rattle.rules.specs.declared.Mapping.{Mapping}
 use Rattle.rules.specs.declared.Fault.{Fault}
 use Rattle.rules.specs.declared.Answer.{Answer}
 use Rattle.rules.specs.declared.Answer.the-variants.{Done, Served, Through, Fetched, NoSuchGuest, Unsound, UnknownType, WrongLength, BadConfiguration, UnknownEndpoint, Unattached, Unmapped}
-use Rattle.rules.specs.Configuration.{share, first, last}
+use Rattle.rules.specs.Configuration.{share, windowFirst, windowLast}
 use Rattle.rules.specs.Table.{keyOf, records, overlap}
 use Rattle.rules.specs.State.{Device, faultAt}
 use Rattle.rules.specs.Guests.{recordsOf}
 use Rattle.rules.specs.Requests.{OK, INVAL, RANGE, NOENT, FAULT, NOMEM}
 use Rattle.rules.specs.Handlers.{outside, granularity, straddles}
-use Rattle.rules.specs.Access.{lookup, faultOf, bytesOf}
+use Rattle.rules.specs.Access.{findMapping, faultOf, bytesOf}
 use Rattle.insertion.specs.Inserted.{insertedWords}
 use Rattle.removal.specs.Removed.{keptOf, removedWords}
 use Rattle.state.specs.Fields.{withLive}
@@ -49,8 +49,8 @@ topAddress = 2 ^ 64 - 1
 
 -- ENDPOINTS
 
-abbrev pub placeOf : State → Endpoint → ℕ
-placeOf s e = indexOf (e .0) (take (s .listed) (s .endpoints))
+abbrev pub placeOfEndpoint : State → Endpoint → ℕ
+placeOfEndpoint s e = indexOf (e .0) (take (s .listed) (s .endpoints))
 
 -- the endpoint at place i is listed and guest g's
 abbrev pub ownedAt : State → Guest → ℕ → Bool
@@ -109,14 +109,14 @@ attachStatus s g dom i reserved =
     firstOf ((not (eqb reserved 0), INVAL) ∷ (not (ownedAt s g i), NOENT) ∷ (outside (s .settings .domains .start) (s .settings .domains .end) (dom .0), RANGE) ∷ [])
 
 unfoldable pub attachFlat : Device → Guest → Domain → Endpoint → ℕ → Worked
-attachFlat d g dom e reserved = settled (attachStatus (d .state) g dom (placeOf (d .state) e) reserved) d (moved d g (placeOf (d .state) e) dom)
+attachFlat d g dom e reserved = settled (attachStatus (d .state) g dom (placeOfEndpoint (d .state) e) reserved) d (moved d g (placeOfEndpoint (d .state) e) dom)
 
 unfoldable pub detachStatus : State → Guest → Domain → ℕ → ℕ → ℕ
 detachStatus s g dom i reserved =
     firstOf ((not (eqb reserved 0), INVAL) ∷ (not (ownedAt s g i), NOENT) ∷ (not (isAttached s i && eqb (getD (s .domains) i 0) (dom .0)), INVAL) ∷ [])
 
 unfoldable pub detachFlat : Device → Guest → Domain → Endpoint → ℕ → Worked
-detachFlat d g dom e reserved = settled (detachStatus (d .state) g dom (placeOf (d .state) e) reserved) d (left d g (placeOf (d .state) e) dom)
+detachFlat d g dom e reserved = settled (detachStatus (d .state) g dom (placeOfEndpoint (d .state) e) reserved) d (left d g (placeOfEndpoint (d .state) e) dom)
 
 -- MAP AND UNMAP
 
@@ -127,7 +127,7 @@ formStatus s g r =
     ∷ (leb (r .end) (r .start), RANGE)
     ∷ (not (eqb (r .start % granularity (s .mask)) 0) || not (eqb ((r .end + 1) % granularity (s .mask)) 0), RANGE)
     ∷ (outside (s .input .start) (s .input .end) (r .start) || outside (s .input .start) (s .input .end) (r .end), RANGE)
-    ∷ (outside (first s (g .0)) (last s (g .0)) (r .phys) || outside (first s (g .0)) (last s (g .0)) (r .phys + r .end - r .start), FAULT)
+    ∷ (outside (windowFirst s (g .0)) (windowLast s (g .0)) (r .phys) || outside (windowFirst s (g .0)) (windowLast s (g .0)) (r .phys + r .end - r .start), FAULT)
     ∷ [])
 
 unfoldable pub mapStatus : Device → Guest → Domain → Mapping → ℕ
@@ -168,7 +168,7 @@ unfoldable pub decided : ℕ → List ℕ → List ℕ → List ℕ → List ℕ
 decided n endpoints owners attached domains live e x k =
     cond (ltb (indexOf (e .0) (take n endpoints)) n)
     (cond (eqb (getD attached (indexOf (e .0) (take n endpoints)) 0) 1)
-    (answerOf x (lookup (getD owners (indexOf (e .0) (take n endpoints)) 0 * domainSpan + getD domains (indexOf (e .0) (take n endpoints)) 0) x k live))
+    (answerOf x (findMapping (getD owners (indexOf (e .0) (take n endpoints)) 0 * domainSpan + getD domains (indexOf (e .0) (take n endpoints)) 0) x k live))
     Unattached)
     UnknownEndpoint
 
@@ -193,7 +193,7 @@ reasonOf Unmapped = 2
 -- the state after an access: a blocked one logs a fault for the endpoint's owner
 unfoldable pub accessed : State → Endpoint → ℕ → ℕ → Answer → State
 accessed s e x k a =
-    cond (eqb (reasonOf a) 0) s (faultLogged s (getD (s .owners) (placeOf s e) 0) (faultOf (reasonOf a) e x k))
+    cond (eqb (reasonOf a) 0) s (faultLogged s (getD (s .owners) (placeOfEndpoint s e) 0) (faultOf (reasonOf a) e x k))
 
 -- FETCH
 

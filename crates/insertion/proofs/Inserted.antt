@@ -10,32 +10,32 @@ use lib.ListN.{length, take, drop}
 use borrow.Author.Tests.{lt-ltb}
 use Rattle.rules.specs.declared.Mapping.{Mapping}
 use Rattle.rules.specs.Sizes.{maxRecords}
-use Rattle.rules.specs.Table.{records, words, tableOf, before, insert}
+use Rattle.rules.specs.Table.{records, words, tableOf, before, insertMapping}
 use Rattle.rules.proofs.Words.{length-records}
 use Rattle.rules.proofs.Records.{length-insert}
 use Rattle.table.specs.Records.{spare}
 use Rattle.rewriting.proofs.Words.{words-append, drop-words}
 use Rattle.rewriting.proofs.Tables.{length-table, table-live, table-drop, table-is}
-use Rattle.insertion.specs.Inserted.{placeOf, insertAt, insertedWords}
+use Rattle.insertion.specs.Inserted.{placeOfMapping, insertAt, insertedWords}
 
 -- a record in its place
-pub insert-place : (r : Mapping) (l : List Mapping) → insertAt (placeOf r l) r l ≡ insert r l
+pub insert-place : (r : Mapping) (l : List Mapping) → insertAt (placeOfMapping r l) r l ≡ insertMapping r l
 insert-place r [] = refl
 insert-place r (s ∷ l) = go (before r s) (insert-place r l)
   where
-    go : (b : Bool) → insertAt (placeOf r l) r l ≡ insert r l → insertAt (cond b 0 (suc (placeOf r l))) r (s ∷ l) ≡ cond b (r ∷ s ∷ l) (s ∷ insert r l)
+    go : (b : Bool) → insertAt (placeOfMapping r l) r l ≡ insertMapping r l → insertAt (cond b 0 (suc (placeOfMapping r l))) r (s ∷ l) ≡ cond b (r ∷ s ∷ l) (s ∷ insertMapping r l)
     go true e = refl
     go false e = ap (λ (m : List Mapping). s ∷ m) e
 
 module _ (live : ℕ) (r : Mapping) (ws : List ℕ) (h : live < length (records ws)) where
-  pub inserted-words : insertedWords live r ws ≡ words (insert r (take live (records ws)) ++ drop (live + 1) (records ws)) ++ spare ws
+  pub inserted-words : insertedWords live r ws ≡ words (insertMapping r (take live (records ws)) ++ drop (live + 1) (records ws)) ++ spare ws
   unfolding insertedWords
   inserted-words = rw (lt-ltb live (length (records ws)) h, words-append, append-assoc, drop-words ws (live + 1) (omega arith))
 
 -- a record put into a whole table
-pub inserted-table : (r : Mapping) (l : List Mapping) → length l < maxRecords → insertedWords (length l) r (tableOf l) ≡ tableOf (insert r l)
+pub inserted-table : (r : Mapping) (l : List Mapping) → length l < maxRecords → insertedWords (length l) r (tableOf l) ≡ tableOf (insertMapping r l)
 unfolding insertedWords
 inserted-table r l h =
     let k : length l ≤ maxRecords = omega arith in
     let m : ltb (length l) (length (records (tableOf l))) ≡ true = lt-ltb (length l) (length (records (tableOf l))) (omega (arith, length-records (tableOf l), length-table l k)) in
-    rw (m, table-live l k, table-drop l k (length l + 1) (omega arith), table-is (insert r l), length-insert r l, ← add-one (length l))
+    rw (m, table-live l k, table-drop l k (length l + 1) (omega arith), table-is (insertMapping r l), length-insert r l, ← add-one (length l))

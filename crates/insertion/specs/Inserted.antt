@@ -6,12 +6,12 @@ use lib.Dec.{ltb}
 use lib.ListN.{length, take, drop}
 use Rattle.rules.specs.declared.Mapping.{Mapping}
 use Rattle.rules.specs.Sizes.{recordWords}
-use Rattle.rules.specs.Table.{records, words, before, insert}
+use Rattle.rules.specs.Table.{records, words, before, insertMapping}
 
 -- how many records stand before the first that r goes before
-abbrev pub placeOf : Mapping → List Mapping → ℕ
-placeOf r [] = 0
-placeOf r (s ∷ l) = cond (before r s) 0 (suc (placeOf r l))
+abbrev pub placeOfMapping : Mapping → List Mapping → ℕ
+placeOfMapping r [] = 0
+placeOfMapping r (s ∷ l) = cond (before r s) 0 (suc (placeOfMapping r l))
 
 -- x at place n of a list
 abbrev pub insertAt : {A : Type 0} → ℕ → A → List A → List A
@@ -21,5 +21,5 @@ insertAt n x l = take n l ++ x ∷ drop n l
 unfoldable pub insertedWords : ℕ → Mapping → List ℕ → List ℕ
 insertedWords live r ws =
     cond (ltb live (length (records ws)))
-    (words (insert r (take live (records ws))) ++ drop (recordWords * (live + 1)) ws)
+    (words (insertMapping r (take live (records ws))) ++ drop (recordWords * (live + 1)) ws)
     ws

@@ -5,7 +5,7 @@ ghost use Prim.Native.Nat.{_+_, _<_, _≤_};
 ghost use lib.ListN.{length, take, drop};
 ghost use Rattle.rules.specs.Table.{records, words, before};
 ghost use Rattle.table.specs.Records.{spare};
-ghost use Rattle.insertion.specs.Inserted.{placeOf, insertAt, insertedWords};
+ghost use Rattle.insertion.specs.Inserted.{placeOfMapping, insertAt, insertedWords};
 use rewriting::write;
 use rules::Mapping;
 use rules::sizes::RECORD_WORDS;
@@ -20,7 +20,7 @@ fn precedes(r: Mapping, s: Mapping) -> bool
 // How many of the first live records stand before the first that r goes before.
 fn place(t: &[u64], live: usize, r: Mapping) -> usize
     requires { ⌜ live ≤ length (records (now t)) ⌝ }
-    ensures { λ n. ⌜ (n ≡ placeOf r (take live (records (now (t .entry))))) × (n ≤ live) ⌝ }
+    ensures { λ n. ⌜ (n ≡ placeOfMapping r (take live (records (now (t .entry))))) × (n ≤ live) ⌝ }
 {
     for i in 0..live {
         if precedes(r, table::get(t, i)) {
@@ -45,7 +45,7 @@ fn shift_in(t: &mut [u64], at: usize, live: usize, r: Mapping)
 }
 
 // The table with r in its place among the first live records, where it has room for one more.
-pub fn insert(t: &mut [u64], live: usize, r: Mapping)
+pub fn insert_mapping(t: &mut [u64], live: usize, r: Mapping)
     ensures { λ _. ⌜ now (t .exit) ≡ insertedWords live r (now (t .entry)) ⌝ }
 {
     if live < t.len() / RECORD_WORDS {

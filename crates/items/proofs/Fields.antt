@@ -8,13 +8,13 @@ use lib.Dec.{leb}
 use lib.ListN.{length, take}
 use lib.Seq.{take-all}
 use borrow.Author.Tests.{leb-true, leb-false, le-leb, lt-ltb, le-ltb, ne-eqb}
-use Rattle.laws.specs.Bytes.{field}
+use Rattle.laws.specs.Bytes.{leField}
 use Rattle.items.specs.declared.Item.the-variants.{Cut, Wrong}
-use Rattle.items.specs.Items.{bodyLength, kindOf, sizeOf, taken, front}
+use Rattle.items.specs.Items.{bodyLength, kindOf, sizeOf, itemOf, front}
 
 -- a field that is all there
 pub field-there :
-    (k n x : ℕ) (s : List ℕ) → n ≤ 8 → k + n ≤ length s → x ≡ cond (leb n 8 && leb (k + n) (length s)) (field k n s) 0 → x ≡ field k n s
+    (k n x : ℕ) (s : List ℕ) → n ≤ 8 → k + n ≤ length s → x ≡ cond (leb n 8 && leb (k + n) (length s)) (leField k n s) 0 → x ≡ leField k n s
 field-there k n x s a b e = e ∙ rw (le-leb n 8 a, le-leb (k + n) (length s) b)
 
 -- a whole record of a kind has that kind's bytes
@@ -35,7 +35,7 @@ module _ (s : List ℕ) where
   unfolding front
   front-cut h b l = rw (ne-eqb (length s) 0 (λ z. omega arith), ne-eqb (bodyLength (kindOf s)) 0 (λ z. omega arith), lt-ltb (length s) (sizeOf s) l)
 
-  pub front-whole : 0 < length s → 0 < bodyLength (kindOf s) → sizeOf s ≤ length s → taken s ≡ front s
+  pub front-whole : 0 < length s → 0 < bodyLength (kindOf s) → sizeOf s ≤ length s → itemOf s ≡ front s
   unfolding front
   front-whole h b l = rw (ne-eqb (length s) 0 (λ z. omega arith), ne-eqb (bodyLength (kindOf s)) 0 (λ z. omega arith), le-ltb (length s) (sizeOf s) l)
 

@@ -4,7 +4,7 @@ use mathlib.Core.Bool.{cond}
 use mathlib.Core.List.{List}
 use lib.Dec.{leb, ltb, eqb}
 use lib.ListN.{length, getD, take, drop}
-use Rattle.laws.specs.Bytes.{field}
+use Rattle.laws.specs.Bytes.{leField}
 use Rattle.rules.specs.declared.Guest.{Guest}
 use Rattle.rules.specs.declared.Endpoint.{Endpoint}
 use Rattle.rules.specs.Sizes.{maxFaults}
@@ -67,17 +67,17 @@ abbrev pub guestAt : ℕ → List ℕ → Guest
 guestAt i s = record { 0 = getD s i 0 }
 
 abbrev pub endpointAt : ℕ → List ℕ → Endpoint
-endpointAt i s = record { 0 = field i 4 s }
+endpointAt i s = record { 0 = leField i 4 s }
 
 abbrev pub guestFields : List ℕ → GuestFields
-guestFields s = record { share = field 1 2 s; first = field 3 8 s; last = field 11 8 s }
+guestFields s = record { share = leField 1 2 s; first = leField 3 8 s; last = leField 11 8 s }
 
 abbrev pub startFields : List ℕ → StartFields
 startFields s =
     record {
-      mask = field 1 8 s;
-      input = record { start = field 9 8 s; end = field 17 8 s };
-      domains = record { start = field 25 4 s; end = field 29 4 s };
+      mask = leField 1 8 s;
+      input = record { start = leField 9 8 s; end = leField 17 8 s };
+      domains = record { start = leField 25 4 s; end = leField 29 4 s };
     }
 
 -- the request bytes of a record
@@ -85,12 +85,12 @@ abbrev pub requestBytes : List ℕ → List ℕ
 requestBytes s = take (sizeOf s - 2) (drop 2 s)
 
 -- the fields of a whole record; "a last byte of 0x21 or 0x23 out of range" is wrong
-unfoldable pub taken : List ℕ → Item
-taken s =
+unfoldable pub itemOf : List ℕ → Item
+itemOf s =
     cond (eqb (kindOf s) GUEST) (NamedGuest (guestFields s))
     (cond (eqb (kindOf s) ENDPOINT) (NamedEndpoint (endpointAt 1 s) (guestAt 5 s))
     (cond (eqb (kindOf s) START) (Start (startFields s))
-    (cond (eqb (kindOf s) ACCESS) (cond (leb (getD s 13 0) 1) (Access (endpointAt 1 s) (field 5 8 s) (getD s 13 0)) Wrong)
+    (cond (eqb (kindOf s) ACCESS) (cond (leb (getD s 13 0) 1) (Access (endpointAt 1 s) (leField 5 8 s) (getD s 13 0)) Wrong)
     (cond (eqb (kindOf s) RESET) (Reset (guestAt 1 s))
     (cond (eqb (kindOf s) FETCH) (cond (leb (getD s 2 0) maxFaults) (Fetch (guestAt 1 s) (getD s 2 0)) Wrong)
     (Request (guestAt 1 s)))))))
@@ -101,7 +101,7 @@ front s =
     cond (eqb (length s) 0) Cut
     (cond (eqb (bodyLength (kindOf s)) 0) Wrong
     (cond (ltb (length s) (sizeOf s)) Cut
-    (taken s)))
+    (itemOf s)))
 
 -- the record at the front is of a known kind and all there
 abbrev pub Fits : List ℕ → Type 0

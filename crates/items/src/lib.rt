@@ -2,7 +2,7 @@
 ghost use mathlib.Core.Path.{_≡_};
 ghost use Prim.Native.Nat.{_<_, _≤_};
 ghost use lib.ListN.{length};
-ghost use Rattle.items.specs.Items.{bodyLength, kindOf, sizeOf, guestFields, startFields, endpointAt, taken};
+ghost use Rattle.items.specs.Items.{bodyLength, kindOf, sizeOf, guestFields, startFields, endpointAt, itemOf};
 ghost use Rattle.items.specs.Items as items;
 use rules::DomainRange;
 use rules::Endpoint;
@@ -109,7 +109,7 @@ fn endpoint_field(s: &[u8]) -> Endpoint
 // An access, if its last byte says read or write.
 fn access_item(s: &[u8]) -> Item
     requires { ⌜ (14 ≤ length (now s)) × (kindOf (now s) ≡ 33) ⌝ }
-    ensures { λ r. ⌜ r ≡ taken (now (s .entry)) ⌝ }
+    ensures { λ r. ⌜ r ≡ itemOf (now (s .entry)) ⌝ }
 {
     if 1 < s[13] {
         return Item::Wrong;
@@ -123,7 +123,7 @@ const MAX_ASKED: u8 = MAX_FAULTS as u8;
 // A fetch, if it asks for no more faults than a log has room for.
 fn fetch_item(s: &[u8]) -> Item
     requires { ⌜ (3 ≤ length (now s)) × (kindOf (now s) ≡ 35) ⌝ }
-    ensures { λ r. ⌜ r ≡ taken (now (s .entry)) ⌝ }
+    ensures { λ r. ⌜ r ≡ itemOf (now (s .entry)) ⌝ }
 {
     if MAX_ASKED < s[2] {
         return Item::Wrong;
@@ -134,7 +134,7 @@ fn fetch_item(s: &[u8]) -> Item
 // The fields of a whole record.
 fn take_item(s: &[u8]) -> Item
     requires { ⌜ (0 < bodyLength (kindOf (now s))) × (sizeOf (now s) ≤ length (now s)) ⌝ }
-    ensures { λ r. ⌜ r ≡ taken (now (s .entry)) ⌝ }
+    ensures { λ r. ⌜ r ≡ itemOf (now (s .entry)) ⌝ }
 {
     let kind = s[0];
     match kind {

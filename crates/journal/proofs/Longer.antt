@@ -8,12 +8,12 @@ use lib.Dec.{ltb, eqb}
 use lib.ListN.{length, getD, take, drop, length-drop, length-append, List·getD-append}
 use lib.Seq.{take-append-le, drop-append-le}
 use borrow.Author.Tests.{eqb-true, eqb-false, ltb-false, ne-eqb, le-ltb}
-use Rattle.laws.specs.Bytes.{le, field}
+use Rattle.laws.specs.Bytes.{leNumber, leField}
 use Rattle.laws.proofs.Tests.{either-way, true-false}
 use Rattle.items.specs.declared.Item.{Item}
 use Rattle.items.specs.declared.Item.the-variants.{Cut, Wrong, NamedGuest, NamedEndpoint, Start, Request, Access, Reset, Fetch}
 use Rattle.playing.specs.declared.player.Player.{Player}
-use Rattle.items.specs.Items.{GUEST, ENDPOINT, START, ACCESS, RESET, FETCH, bodyLength, kindOf, sizeOf, requestBytes, taken, front, Fits}
+use Rattle.items.specs.Items.{GUEST, ENDPOINT, START, ACCESS, RESET, FETCH, bodyLength, kindOf, sizeOf, requestBytes, itemOf, front, Fits}
 use Rattle.playing.specs.Turns.{turnOf, turn}
 use Rattle.turns.proofs.Reading.{works, front-fits}
 
@@ -35,11 +35,11 @@ isCut (Reset g) = false
 isCut (Fetch g n) = false
 
 module _ (s rest : List ℕ) where
-  field-more : (k n : ℕ) → k + n ≤ length s → field k n (s ++ rest) ≡ field k n s
+  field-more : (k n : ℕ) → k + n ≤ length s → leField k n (s ++ rest) ≡ leField k n s
   field-more k n h =
       let a : drop k (s ++ rest) ≡ drop k s ++ rest = drop-append-le k s rest (omega arith) in
       let b : take n (drop k s ++ rest) ≡ take n (drop k s) = take-append-le n (drop k s) rest (omega (arith, length-drop k s)) in
-      ap (λ z. le (take n z)) a ∙ ap le b
+      ap (λ z. leNumber (take n z)) a ∙ ap leNumber b
 
   at-more : (i : ℕ) → i < length s → getD (s ++ rest) i 0 ≡ getD s i 0
   at-more i h = List·getD-append s rest 0 i h
@@ -54,8 +54,8 @@ module _ (s rest : List ℕ) where
   of-kind : Fits s → (k : ℕ) → Of k
   of-kind f k e = rw (sym (eqb-true (kindOf s) k e)) (f .2)
 
-  taken-more : Fits s → taken (s ++ rest) ≡ taken s
-  unfolding taken bodyLength
+  taken-more : Fits s → itemOf (s ++ rest) ≡ itemOf s
+  unfolding itemOf bodyLength
   taken-more f =
       let o = of-kind f in
       rw (at-more 0 (f .0))

@@ -10,7 +10,7 @@ use wire::fields::field_at;
 ghost use mathlib.Core.Path.{_≡_};
 ghost use Prim.Native.Nat.{_+_, _≤_};
 ghost use lib.ListN.{length};
-ghost use Rattle.laws.specs.Bytes.{field};
+ghost use Rattle.laws.specs.Bytes.{leField};
 ghost use Rattle.rules.specs.Requests.{domainField, endpointField, attachReserved};
 ghost use Rattle.layouts.specs.Parsed.{parsed, asked, mapFields, unmapFields, Whole};
 
@@ -42,7 +42,7 @@ pub enum Request {
 // The 32-bit number in the four bytes that start at byte k.
 fn u32_at(bytes: &[u8], k: usize) -> u32
     requires { ⌜ k + 4 ≤ length (now bytes) ⌝ }
-    ensures { λ r. ⌜ r ≡ field k 4 (now (bytes .entry)) ⌝ }
+    ensures { λ r. ⌜ r ≡ leField k 4 (now (bytes .entry)) ⌝ }
 {
     field_at(bytes, k, 4) as u32
 }

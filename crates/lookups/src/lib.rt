@@ -35,8 +35,8 @@ fn permits(r: Mapping, key: u64, address: u64, kind: u8) -> bool
 }
 
 // The first of the first live records that lets an access of this kind through at the address.
-pub fn lookup(t: &[u64], live: usize, key: u64, address: u64, kind: u8) -> Found
-    ensures { λ r. ⌜ r ≡ foundOf (access.lookup key address kind (take live (records (now (t .entry))))) ⌝ }
+pub fn find_mapping(t: &[u64], live: usize, key: u64, address: u64, kind: u8) -> Found
+    ensures { λ r. ⌜ r ≡ foundOf (access.findMapping key address kind (take live (records (now (t .entry))))) ⌝ }
 {
     let n = bounded(t, live);
     for i in 0..n {

@@ -82,7 +82,7 @@ pub fn map(s: State, t: &mut [u64], g: Guest, d: Domain, r: Mapping) -> Handled
             state: s,
         };
     }
-    insertion::insert(t, live, r);
+    insertion::insert_mapping(t, live, r);
     let mut next = s;
     next.live = live + 1;
     Handled {

@@ -52,8 +52,8 @@ done s p t line = record { player = p; table = t; read = sizeOf s; printed = lin
 abbrev pub allowed : Bool → Player → List ℕ → Turn → Turn
 allowed b p t x = cond b x (idle p t true)
 
-abbrev pub deviceOf : Player → List ℕ → Device
-deviceOf p t = record { state = p .state; table = t }
+abbrev pub playerDevice : Player → List ℕ → Device
+playerDevice p t = record { state = p .state; table = t }
 
 -- a call, with the lines that its answer and its buffer as left print
 abbrev pub callTurn : List ℕ → (Reply → List ℕ) → Reply × Device → Turn
@@ -78,22 +78,22 @@ startTurn p t s f = startedTurn s (setUp (configOf (withSettings (rangesNamed f 
 -- "0x11, 0x12, 0x13": a request; its writable part has four bytes
 abbrev pub requestTurn : Player → List ℕ → List ℕ → Guest → Turn
 requestTurn p t s g =
-    callTurn s (λ r. requestLine (r .answer) (r .buffer)) (step (deviceOf p t) (request g (requestBytes s) (replicate 4 0)))
+    callTurn s (λ r. requestLine (r .answer) (r .buffer)) (step (playerDevice p t) (request g (requestBytes s) (replicate 4 0)))
 
 -- "0x21": an access
 abbrev pub accessTurn : Player → List ℕ → List ℕ → Endpoint → ℕ → ℕ → Turn
-accessTurn p t s e a k = callTurn s (λ r. accessLine (r .answer)) (step (deviceOf p t) (access-by e a k))
+accessTurn p t s e a k = callTurn s (λ r. accessLine (r .answer)) (step (playerDevice p t) (access-by e a k))
 
 -- "0x22 reset"
 abbrev pub resetTurn : Player → List ℕ → List ℕ → Guest → Turn
-resetTurn p t s g = callTurn s (λ r. numberLine letterZ (r .answer)) (step (deviceOf p t) (reset-of g))
+resetTurn p t s g = callTurn s (λ r. numberLine letterZ (r .answer)) (step (playerDevice p t) (reset-of g))
 
 -- "0x23 fetch"; its buffer has room for the records asked
 abbrev pub fetchedTurn : List ℕ → Reply × Device → Turn
 fetchedTurn s r = callTurn s (λ x. fetchLines (x .answer) (x .buffer)) r
 
 abbrev pub fetchTurn : Player → List ℕ → List ℕ → Guest → ℕ → Turn
-fetchTurn p t s g n = fetchedTurn s (step (deviceOf p t) (fetch-for g (replicate (faultSize * n) 0)))
+fetchTurn p t s g n = fetchedTurn s (step (playerDevice p t) (fetch-for g (replicate (faultSize * n) 0)))
 
 -- "a fifth guest, a 33rd endpoint, 0x01 or 0x02 after start, a second start, a call before start": each is bad
 unfoldable pub turnOf : Player → List ℕ → List ℕ → Item → Turn

@@ -7,7 +7,7 @@ use lib.ListN.{getD, set}
 use Rattle.laws.specs.Lists.{tab}
 use Rattle.rules.specs.Sizes.{maxEndpoints, maxFaults}
 use Rattle.rules.specs.declared.State.{State}
-use Rattle.state.specs.Fields.{withAttachments, withCounts, withFaults}
+use Rattle.state.specs.Fields.{withAttached, withCounts, withFaults}
 use Rattle.dropping.specs.Changes.{shiftedAll}
 
 -- an array with zero at the places, below the count, whose owner is g
@@ -20,6 +20,6 @@ zeroedOf n g owners l = tab maxEndpoints (zeroOf n g owners l)
 -- guest g's endpoints detached, its log empty, its lost count 0
 unfoldable pub guestCleared : State → ℕ → State
 guestCleared s g =
-    withAttachments (zeroedOf (s .listed) g (s .owners) (s .attached)) (zeroedOf (s .listed) g (s .owners) (s .domains))
+    withAttached (zeroedOf (s .listed) g (s .owners) (s .attached)) (zeroedOf (s .listed) g (s .owners) (s .domains))
     (withCounts (set (s .logged) g 0) (set (s .lost) g 0)
     (withFaults (shiftedAll g maxFaults (s .reasons)) (shiftedAll g maxFaults (s .flags)) (shiftedAll g maxFaults (s .sources)) (shiftedAll g maxFaults (s .addresses)) s))

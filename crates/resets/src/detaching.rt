@@ -1,13 +1,13 @@
 // A guest's endpoints detached.
 ghost use mathlib.Core.Path.{_≡_};
-ghost use Rattle.state.specs.Fields.{withAttachments};
+ghost use Rattle.state.specs.Fields.{withAttached};
 ghost use Rattle.resets.specs.Changes.{zeroedOf};
 use rules::State;
 use rules::sizes::MAX_ENDPOINTS;
 
 // The state with guest g's endpoints detached: the flag and the domain of each are zero.
 pub(crate) fn detach_all(s: State, g: u8) -> State
-    ensures { λ r. ⌜ r ≡ withAttachments (zeroedOf (s .listed) g (s .owners) (s .attached)) (zeroedOf (s .listed) g (s .owners) (s .domains)) s ⌝ }
+    ensures { λ r. ⌜ r ≡ withAttached (zeroedOf (s .listed) g (s .owners) (s .attached)) (zeroedOf (s .listed) g (s .owners) (s .domains)) s ⌝ }
 {
     let owners = s.owners;
     let mut attached = s.attached;

@@ -25,7 +25,7 @@ use Rattle.rules.specs.Table.{keyOf, mapping, overlap, guestOf}
 use Rattle.rules.specs.State.{Attachment, World, Device, configOf, read}
 use Rattle.rules.specs.Guests.{Own, Part, own, part}
 use Rattle.rules.specs.Handlers.{outside, attachmentOf, ofKey, formSteps}
-use Rattle.rules.specs.Access.{hasFlag, permits, blocked, translated, lookup, decided, access}
+use Rattle.rules.specs.Access.{hasFlag, permits, blocked, translated, findMapping, decided, access}
 use Rattle.rules.specs.Sound.{sound}
 use Rattle.rules.specs.Device.{access-by, Reply, rule, caller, owns, is, step}
 use Rattle.rules.specs.Claims.{Permitting, attachedTo, GoesTo}
@@ -109,16 +109,16 @@ access-lands o p e x k f = go (attachmentOf e (o .endpoints) (p .attachments))
     Lands : Answer → Type 0
     Lands a = number a ≡ 0 → (o .first ≤ addressOf a) × (addressOf a ≤ o .last)
 
-    hit : (d : Domain) (m : Option Mapping) → lookup (keyOf (o .guest) d) x k (p .records) ≡ m → Lands (translated e x k p m .0)
+    hit : (d : Domain) (m : Option Mapping) → findMapping (keyOf (o .guest) d) x k (p .records) ≡ m → Lands (translated e x k p m .0)
     hit d none i = unfold translated blocked in (λ n. absurd (omega arith))
     hit d (some r) i = unfold translated in (λ n. lands o (keyOf (o .guest) d) x k r (record-form o (p .attachments) r (q .1)) (q .0))
       where
         q : (permits (keyOf (o .guest) d) x k r ≡ true) × (recordOk o (p .attachments) r ≡ true)
-        q = found (permits (keyOf (o .guest) d) x k) (recordOk o (p .attachments)) (p .records) r (unfold lookup in i) (f .records)
+        q = found (permits (keyOf (o .guest) d) x k) (recordOk o (p .attachments)) (p .records) r (unfold findMapping in i) (f .records)
 
     go : (a : Attachment) → Lands (decided o p e x k a .0)
     go none = unfold decided blocked in (λ n. absurd (omega arith))
-    go (some d) = unfold decided in hit d (lookup (keyOf (o .guest) d) x k (p .records)) refl
+    go (some d) = unfold decided in hit d (findMapping (keyOf (o .guest) d) x k (p .records)) refl
 
 -- EXACTLY WHEN
 
@@ -160,8 +160,8 @@ module _ (d : Device) (s : sound d ≡ true) (e : Endpoint) (x k : ℕ) (g : Gue
   small dom i = omega (arith, outside-high _ _ _ (within dom (in-one-of (part c g (read d) .attachments) (own c g .endpoints) dom i (facts .attachments))), facts .narrow)
 
   -- the guest's records are found among all
-  looked-up : (dom : Domain) → attachedTo d g e ≡ some dom → lookup (keyOf (own c g .guest) dom) x k (part c g (read d) .records) ≡ find (permits (keyOf g dom) x k) (read d .records)
-  unfolding lookup part own
+  looked-up : (dom : Domain) → attachedTo d g e ≡ some dom → findMapping (keyOf (own c g .guest) dom) x k (part c g (read d) .records) ≡ find (permits (keyOf g dom) x k) (read d .records)
+  unfolding findMapping part own
   looked-up dom i = find-keep (λ r. eqb (guestOf r) (g .0)) (permits (keyOf g dom) x k) (read d .records) (λ r p. eq-eqb (guestOf r) (g .0) (ap (λ n. n / domainSpan) (permits-covers (keyOf g dom) x k r p .key) ∙ key-guest (g .0) (dom .0) (small dom i)))
 
   pub only-when : (to : ℕ) → GoesTo d e x k to → (domain : Domain) × (i : ℕ) × (r : Mapping) × (attachedTo d g e ≡ some domain) × Permitting d g domain x k i r × (to ≡ x - r .start + r .phys)

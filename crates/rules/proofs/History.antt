@@ -19,15 +19,15 @@ use Rattle.rules.specs.declared.Mapping.{Mapping}
 use Rattle.rules.specs.declared.Answer.{Answer}
 use Rattle.rules.specs.Answers.{usedLength}
 use Rattle.rules.specs.Configuration.{Config}
-use Rattle.rules.specs.Table.{keyOf, insert}
+use Rattle.rules.specs.Table.{keyOf, insertMapping}
 use Rattle.rules.specs.State.{Attachment, World, Device, read, write}
 use Rattle.rules.specs.Guests.{Own, Part, own, part, withRecords}
 use Rattle.rules.specs.Requests.{OK, ATTACH, DETACH, MAP, requestRefusals, typeOf, domainField, endpointField, attachReserved, virtStart, virtEnd, unmapReserved}
-use Rattle.rules.specs.Handlers.{settle, isIn, attachmentOf, without, leave, enter, moveFrom, attached, attachSteps, attach, detachSteps, detach, formSteps, mapSteps, addMapping, inside, unmapSteps, unmap, askedFor, handle}
-use Rattle.rules.specs.Access.{lookup, blocked, translated, decided, access, reset}
+use Rattle.rules.specs.Handlers.{settle, isIn, attachmentOf, without, leave, enter, moveFrom, attached, attachSteps, handleAttach, detachSteps, handleDetach, formSteps, mapSteps, handleMap, inside, unmapSteps, handleUnmap, askedFor, handle}
+use Rattle.rules.specs.Access.{findMapping, blocked, translated, decided, access, reset}
 use Rattle.rules.specs.Sound.{passes}
 use Rattle.rules.specs.Device.{Call, request, access-by, reset-of, fetch-for, requested, rule, owns, step}
-use Rattle.rules.specs.History.{goneWithDomain, goneByMove, goneByRequest, gone, taken, mapped, takenOver, mappedOver}
+use Rattle.rules.specs.History.{goneWithDomain, goneByMove, goneByRequest, gone, takenAway, mapped, takenOver, mappedOver}
 use Rattle.rules.proofs.Records.{length-insert}
 use Rattle.rules.proofs.Worlds.{Whole, stepWorld, step-keeps, step-other, step-mine}
 use Rattle.rules.proofs.Writing.{read-write}
@@ -50,8 +50,8 @@ settled P (some s) p q a b = b
 -- RECORDS LEFT, BY THE REQUEST'S TYPE
 
 module _ (o : Own) (p : Part) where
-  attach-left : (e : Endpoint) (d : Domain) (z : ℕ) → attach o p d e z .1 .records ≡ keep (λ r. not (passes (firstFailing (attachSteps o d e z)) && goneByMove o p e d (attachmentOf e (o .endpoints) (p .attachments)) r)) (p .records)
-  unfolding attach
+  attach-left : (e : Endpoint) (d : Domain) (z : ℕ) → handleAttach o p d e z .1 .records ≡ keep (λ r. not (passes (firstFailing (attachSteps o d e z)) && goneByMove o p e d (attachmentOf e (o .endpoints) (p .attachments)) r)) (p .records)
+  unfolding handleAttach
   attach-left e d z =
       settled (λ b q. q .records ≡ keep (λ r. not (b && goneByMove o p e d a r)) (p .records)) (firstFailing (attachSteps o d e z)) p (attached o e d p)
       (unfold attached in go a) (sym (all-kept (p .records)))
@@ -67,14 +67,14 @@ module _ (o : Own) (p : Part) where
       go none = unfold isIn moveFrom enter in sym (all-kept (p .records))
       go (some was) = unfold moveFrom in moved was (isIn d (some was)) refl
 
-  detach-left : (e : Endpoint) (d : Domain) (z : ℕ) → detach o p d e z .1 .records ≡ keep (λ r. not (passes (firstFailing (detachSteps o p d e z)) && goneWithDomain o p e d r)) (p .records)
-  unfolding detach
+  detach-left : (e : Endpoint) (d : Domain) (z : ℕ) → handleDetach o p d e z .1 .records ≡ keep (λ r. not (passes (firstFailing (detachSteps o p d e z)) && goneWithDomain o p e d r)) (p .records)
+  unfolding handleDetach
   detach-left e d z =
       settled (λ b q. q .records ≡ keep (λ r. not (b && goneWithDomain o p e d r)) (p .records)) (firstFailing (detachSteps o p d e z)) p (leave o e d p)
       (unfold leave without in refl) (sym (all-kept (p .records)))
 
-  unmap-left : (d : Domain) (a b z : ℕ) → unmap o p d a b z .1 .records ≡ keep (λ r. not (passes (firstFailing (unmapSteps o p d a b z)) && inside (keyOf (o .guest) d) a b r)) (p .records)
-  unfolding unmap
+  unmap-left : (d : Domain) (a b z : ℕ) → handleUnmap o p d a b z .1 .records ≡ keep (λ r. not (passes (firstFailing (unmapSteps o p d a b z)) && inside (keyOf (o .guest) d) a b r)) (p .records)
+  unfolding handleUnmap
   unmap-left d a b z =
       settled (λ t q. q .records ≡ keep (λ r. not (t && inside (keyOf (o .guest) d) a b r)) (p .records)) (firstFailing (unmapSteps o p d a b z)) p _
       (unfold without in refl) (sym (all-kept (p .records)))
@@ -90,7 +90,7 @@ module _ (o : Own) (p : Part) where
       e = endpointField q
 
       go : (t u : Bool)
-          → cond t (attach o p d e (attachReserved q)) (cond u (detach o p d e (attachReserved q)) (unmap o p d (virtStart q) (virtEnd q) (unmapReserved q))) .1 .records
+          → cond t (handleAttach o p d e (attachReserved q)) (cond u (handleDetach o p d e (attachReserved q)) (handleUnmap o p d (virtStart q) (virtEnd q) (unmapReserved q))) .1 .records
           ≡ keep (λ r. not (cond t (passes (firstFailing (attachSteps o d e (attachReserved q))) && goneByMove o p e d (attachmentOf e (o .endpoints) (p .attachments)) r)
           (cond u (passes (firstFailing (detachSteps o p d e (attachReserved q))) && goneWithDomain o p e d r)
           (passes (firstFailing (unmapSteps o p d (virtStart q) (virtEnd q) (unmapReserved q))) && inside (keyOf (o .guest) d) (virtStart q) (virtEnd q) r)))) (p .records)
@@ -108,21 +108,21 @@ module _ (o : Own) (p : Part) where
 
       go : (a : Attachment) → decided o p e x k a .1 .records ≡ p .records
       go none = unfold decided blocked in refl
-      go (some d) = unfold decided in hit (lookup (keyOf (o .guest) d) x k (p .records))
+      go (some d) = unfold decided in hit (findMapping (keyOf (o .guest) d) x k (p .records))
 
   -- ONE CALL
 
-  plain : (x : Call) → rule o p x .1 .records ≡ keep (λ r. not (gone o p x r)) (p .records) → mapped x (rule o p x .0) ≡ false → length (rule o p x .1 .records) + taken o p x ≡ length (p .records) + cond (mapped x (rule o p x .0)) 1 0
-  plain x left off = unfold taken in (rw (left, off) (omega (arith, split (gone o p x) (p .records))))
+  plain : (x : Call) → rule o p x .1 .records ≡ keep (λ r. not (gone o p x r)) (p .records) → mapped x (rule o p x .0) ≡ false → length (rule o p x .1 .records) + takenAway o p x ≡ length (p .records) + cond (mapped x (rule o p x .0)) 1 0
+  plain x left off = unfold takenAway in (rw (left, off) (omega (arith, split (gone o p x) (p .records))))
 
   no-map-status : (d : Domain) (r : Mapping) (s : ℕ) → firstFailing (mapSteps o p d r) ≡ some s → eqb s 0 ≡ false
   no-map-status d r s e = not-true (eqb s 0) (failing-among (λ n. not (eqb n 0)) (mapSteps o p d r) s e (unfold formSteps in refl))
 
-  map-balance : (d : Domain) (r : Mapping) → length (addMapping o p d r .1 .records) ≡ length (p .records) + cond (eqb (addMapping o p d r .0) OK) 1 0
-  unfolding addMapping
+  map-balance : (d : Domain) (r : Mapping) → length (handleMap o p d r .1 .records) ≡ length (p .records) + cond (eqb (handleMap o p d r .0) OK) 1 0
+  unfolding handleMap
   map-balance d r = go (firstFailing (mapSteps o p d r)) refl
     where
-      go : (v : Option ℕ) → firstFailing (mapSteps o p d r) ≡ v → length (settle v p (withRecords (insert r (p .records)) p) .1 .records) ≡ length (p .records) + cond (eqb (settle v p (withRecords (insert r (p .records)) p) .0) OK) 1 0
+      go : (v : Option ℕ) → firstFailing (mapSteps o p d r) ≡ v → length (settle v p (withRecords (insertMapping r (p .records)) p) .1 .records) ≡ length (p .records) + cond (eqb (settle v p (withRecords (insertMapping r (p .records)) p) .0) OK) 1 0
       go none e = unfold settle in omega (arith, length-insert r (p .records))
       go (some s) e = unfold settle in (rw (no-map-status d r s e) (omega arith))
 
@@ -132,12 +132,12 @@ module _ (o : Own) (p : Part) where
   map-stays g q w e three r = rw (e, three)
 
   mapped-balance : (g : Guest) (q w : List ℕ) → firstFailing (requestRefusals q (length w)) ≡ none → typeOf q ≡ MAP → keep (gone o p (request g q w)) (p .records) ≡ []
-      → length (rule o p (request g q w) .1 .records) + taken o p (request g q w) ≡ length (p .records) + cond (mapped (request g q w) (rule o p (request g q w) .0)) 1 0
-  unfolding rule taken mapped requested handle
+      → length (rule o p (request g q w) .1 .records) + takenAway o p (request g q w) ≡ length (p .records) + cond (mapped (request g q w) (rule o p (request g q w) .0)) 1 0
+  unfolding rule takenAway mapped requested handle
   mapped-balance g q w e three k = rw (k, e, three) (omega (arith, map-balance (domainField q) (askedFor o q)))
 
   worked-balance : (g : Guest) (q w : List ℕ) → firstFailing (requestRefusals q (length w)) ≡ none → (t : Bool) → eqb (typeOf q) MAP ≡ t
-      → length (rule o p (request g q w) .1 .records) + taken o p (request g q w) ≡ length (p .records) + cond (mapped (request g q w) (rule o p (request g q w) .0)) 1 0
+      → length (rule o p (request g q w) .1 .records) + takenAway o p (request g q w) ≡ length (p .records) + cond (mapped (request g q w) (rule o p (request g q w) .0)) 1 0
   worked-balance g q w e true t =
       let three = eqb-true (typeOf q) MAP t in
       mapped-balance g q w e three (keep-same (gone o p (request g q w)) (λ r. false) (p .records) (map-stays g q w e three) ∙ none-kept (p .records))
@@ -146,7 +146,7 @@ module _ (o : Own) (p : Part) where
       (unfold mapped in (rw t))
 
   refused-balance : (g : Guest) (q w : List ℕ) (a : Answer) → firstFailing (requestRefusals q (length w)) ≡ some a
-      → length (rule o p (request g q w) .1 .records) + taken o p (request g q w) ≡ length (p .records) + cond (mapped (request g q w) (rule o p (request g q w) .0)) 1 0
+      → length (rule o p (request g q w) .1 .records) + takenAway o p (request g q w) ≡ length (p .records) + cond (mapped (request g q w) (rule o p (request g q w) .0)) 1 0
   refused-balance g q w a e =
       plain (request g q w) (unfold rule gone requested in (rw e (sym (all-kept (p .records)))))
       (unfold rule mapped requested in (rw (e, eqb-true (usedLength a) 0 (failing-among (λ b. eqb (usedLength b) 0) (requestRefusals q (length w)) a e refl)) (both-false (eqb (typeOf q) MAP))))
@@ -156,12 +156,12 @@ module _ (o : Own) (p : Part) where
       both-false false = refl
 
   request-balance : (g : Guest) (q w : List ℕ) (m : Option Answer) → firstFailing (requestRefusals q (length w)) ≡ m
-      → length (rule o p (request g q w) .1 .records) + taken o p (request g q w) ≡ length (p .records) + cond (mapped (request g q w) (rule o p (request g q w) .0)) 1 0
+      → length (rule o p (request g q w) .1 .records) + takenAway o p (request g q w) ≡ length (p .records) + cond (mapped (request g q w) (rule o p (request g q w) .0)) 1 0
   request-balance g q w none e = worked-balance g q w e (eqb (typeOf q) MAP) refl
   request-balance g q w (some a) e = refused-balance g q w a e
 
   -- records after, with those taken away, are records before, with the one mapped
-  pub balance : (x : Call) → length (rule o p x .1 .records) + taken o p x ≡ length (p .records) + cond (mapped x (rule o p x .0)) 1 0
+  pub balance : (x : Call) → length (rule o p x .1 .records) + takenAway o p x ≡ length (p .records) + cond (mapped x (rule o p x .0)) 1 0
   balance (request g q w) = request-balance g q w (firstFailing (requestRefusals q (length w))) refl
   balance (access-by e x k) = plain (access-by e x k) (unfold rule gone in (access-left e x k ∙ sym (all-kept (p .records)))) (unfold mapped in refl)
   balance (reset-of g) = plain (reset-of g) (unfold rule gone reset in sym (none-kept (p .records))) (unfold mapped in refl)
@@ -178,7 +178,7 @@ held-over c g (x ∷ xs) w h l = rw (step-write c w x h, read-write c w h) (go (
     v = stepWorld c w x .1
 
     go : (b : Bool) → owns c g x ≡ b → length (part c g (after (stepWorld c) v xs) .records) + takenOver c g (write c v) xs ≡ length (part c g v .records) + mappedOver c g (write c v) xs
-        → length (part c g (after (stepWorld c) v xs) .records) + (cond b (taken (own c g) (part c g w) x) 0 + takenOver c g (write c v) xs)
+        → length (part c g (after (stepWorld c) v xs) .records) + (cond b (takenAway (own c g) (part c g w) x) 0 + takenOver c g (write c v) xs)
         ≡ length (part c g w .records) + (cond (b && mapped x (stepWorld c w x .0)) 1 0 + mappedOver c g (write c v) xs)
     go true e i =
         let k : length (part c g v .records) ≡ length (rule (own c g) (part c g w) x .1 .records) = ap (λ (p : Part). length (p .records)) (step-mine c w x g h l e .1) in

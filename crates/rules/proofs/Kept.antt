@@ -13,7 +13,7 @@ use Rattle.laws.proofs.Tables.{below-at, below-all, getD-tab, tab-same, sum-sam
 use Rattle.rules.specs.declared.Guest.{Guest}
 use Rattle.rules.specs.declared.Settings.{Settings}
 use Rattle.rules.specs.Sizes.{maxGuests}
-use Rattle.rules.specs.Configuration.{Config, share, first, last, shareAddress, settingsTests, goodSettings, goodLists, good}
+use Rattle.rules.specs.Configuration.{Config, share, windowFirst, windowLast, shareAddress, settingsTests, goodSettings, goodLists, good}
 use Rattle.rules.specs.State.{World, trimmed, stateOf, write, start}
 use Rattle.rules.specs.Guests.{own}
 use Rattle.rules.specs.Sound.{guest}
@@ -28,13 +28,13 @@ module _ (s : Settings) (few : s .guests ≤ maxGuests) where
   unfolding trimmed
   kept-share g l = in-use (share s) g l
 
-  pub kept-first : (g : ℕ) → g < s .guests → first (trimmed s) g ≡ first s g
+  pub kept-first : (g : ℕ) → g < s .guests → windowFirst (trimmed s) g ≡ windowFirst s g
   unfolding trimmed
-  kept-first g l = in-use (first s) g l
+  kept-first g l = in-use (windowFirst s) g l
 
-  pub kept-last : (g : ℕ) → g < s .guests → last (trimmed s) g ≡ last s g
+  pub kept-last : (g : ℕ) → g < s .guests → windowLast (trimmed s) g ≡ windowLast s g
   unfolding trimmed
-  kept-last g l = in-use (last s) g l
+  kept-last g l = in-use (windowLast s) g l
 
   pub good-trimmed : goodSettings s ≡ true → goodSettings (trimmed s) ≡ true
   unfolding goodSettings
@@ -45,7 +45,7 @@ module _ (s : Settings) (few : s .guests ≤ maxGuests) where
         (
           unfold trimmed in t .1 .0,
           (
-            below-all (trimmed s .guests) _ (λ g l. rw (kept-first g (unfold trimmed in l), kept-last g (unfold trimmed in l)) (below-at (s .guests) (λ k. leb (first s k) (last s k)) g (t .1 .1 .0) (unfold trimmed in l))),
+            below-all (trimmed s .guests) _ (λ g l. rw (kept-first g (unfold trimmed in l), kept-last g (unfold trimmed in l)) (below-at (s .guests) (λ k. leb (windowFirst s k) (windowLast s k)) g (t .1 .1 .0) (unfold trimmed in l))),
             (
               below-all (trimmed s .guests) _ (λ g l. below-all g _ (λ k m. windows g k (unfold trimmed in l) m (t .1 .1 .1 .0))),
               (
@@ -66,7 +66,7 @@ module _ (s : Settings) (few : s .guests ≤ maxGuests) where
       sums = unfold trimmed in sum-same (s .guests) (share (trimmed s)) (share s) kept-share
 
   pub trimmed-twice : trimmed (trimmed s) ≡ trimmed s
-  trimmed-twice = unfold trimmed in rw (again (share s), again (first s), again (last s))
+  trimmed-twice = unfold trimmed in rw (again (share s), again (windowFirst s), again (windowLast s))
     where
       twice : (b : Bool) (x : ℕ) → cond b (cond b x 0) 0 ≡ cond b x 0
       twice true x = refl

@@ -19,12 +19,12 @@ use Rattle.rules.specs.declared.Fault.{Fault}
 use Rattle.rules.specs.declared.Answer.{Answer}
 use Rattle.rules.specs.declared.Answer.the-variants.{Unattached, Unmapped}
 use Rattle.rules.specs.Sizes.{domainSpan, maxFaults, maxLost}
-use Rattle.rules.specs.Table.{keyOf, guestOf, domainOf, before, overlap, insert}
+use Rattle.rules.specs.Table.{keyOf, guestOf, domainOf, before, overlap, insertMapping}
 use Rattle.rules.specs.State.{Attachment, Log}
 use Rattle.rules.specs.Guests.{Own, Part, withRecords, withLog}
 use Rattle.rules.specs.Requests.{requestRefusals, typeOf, ATTACH, DETACH, MAP, domainField, endpointField, attachReserved, virtStart, virtEnd, unmapReserved}
-use Rattle.rules.specs.Handlers.{Steps, settle, outside, isIn, exists, listed, attachmentOf, attachedAs, ofKey, without, leave, enter, moveFrom, attached, attachSteps, attach, detachSteps, detach, formSteps, recordSteps, mapSteps, addMapping, unmapSteps, unmap, askedFor, handle}
-use Rattle.rules.specs.Access.{logged, faultOf, blocked, translated, lookup, decided, access, reset, fetchable, fetchedFrom}
+use Rattle.rules.specs.Handlers.{Steps, settle, outside, isIn, exists, listed, attachmentOf, attachedAs, ofKey, without, leave, enter, moveFrom, attached, attachSteps, handleAttach, detachSteps, handleDetach, formSteps, recordSteps, mapSteps, handleMap, unmapSteps, handleUnmap, askedFor, handle}
+use Rattle.rules.specs.Access.{logged, faultOf, blocked, translated, findMapping, decided, access, reset, fetchable, fetchedFrom}
 use Rattle.rules.specs.Sound.{passes, faultGood}
 use Rattle.rules.specs.Device.{Call, request, access-by, reset-of, fetch-for, requested, rule}
 use Rattle.rules.proofs.Records.{key-guest, key-domain, key-back, wide, apart, mine, all-insert, length-insert, insert-ordered, insert-apart}
@@ -229,11 +229,11 @@ attached-facts o p e d r f = either-way (Facts o) (isIn d a) (λ _. f) (λ _. go
 
 -- A RECORD MAPPED
 
-pub map-facts : (o : Own) (p : Part) (d : Domain) (r : Mapping) → r .key ≡ keyOf (o .guest) d → Facts o p → Facts o (addMapping o p d r .1)
-unfolding addMapping
-map-facts o p d r k f = settle-keeps (Facts o) (mapSteps o p d r) p (withRecords (insert r (p .records)) p) f go
+pub map-facts : (o : Own) (p : Part) (d : Domain) (r : Mapping) → r .key ≡ keyOf (o .guest) d → Facts o p → Facts o (handleMap o p d r .1)
+unfolding handleMap
+map-facts o p d r k f = settle-keeps (Facts o) (mapSteps o p d r) p (withRecords (insertMapping r (p .records)) p) f go
   where
-    go : Clear (mapSteps o p d r) → Facts o (withRecords (insert r (p .records)) p)
+    go : Clear (mapSteps o p d r) → Facts o (withRecords (insertMapping r (p .records)) p)
     go c =
         let lo = clear-left (recordSteps o (p .attachments) d r) _ c in
         let hi = clear-right (recordSteps o (p .attachments) d r) _ c in
@@ -254,7 +254,7 @@ map-facts o p d r k f = settle-keeps (Facts o) (mapSteps o p d r) p (withRecords
         }
 
 pub handle-facts : (o : Own) (p : Part) (r : List ℕ) → Facts o p → Facts o (handle o p r .1)
-unfolding handle attach detach unmap
+unfolding handle handleAttach handleDetach handleUnmap
 handle-facts o p r f =
     either-way (λ (t : ℕ × Part). Facts o (t .1)) (eqb (typeOf r) ATTACH)
     (λ _. settle-keeps (Facts o) (attachSteps o d e (attachReserved r)) p _ f (λ c. attached-facts o p e d (c .1 .1 .0) f))
@@ -294,7 +294,7 @@ access-facts o p e x k h f = go (attachmentOf e (o .endpoints) (p .attachments))
 
     go : (a : Attachment) → Facts o (decided o p e x k a .1)
     go none = unfold decided in blocked-facts o p Unattached 1 e x k refl h f
-    go (some d) = unfold decided in hit (lookup (keyOf (o .guest) d) x k (p .records))
+    go (some d) = unfold decided in hit (findMapping (keyOf (o .guest) d) x k (p .records))
 
 pub reset-facts : (o : Own) (p : Part) → Facts o p → Facts o (reset p)
 unfolding reset

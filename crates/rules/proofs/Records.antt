@@ -14,7 +14,7 @@ use Rattle.laws.proofs.Filters.{all-imp, all-append, all-keep, all-kept, keep-a
 use Rattle.rules.specs.declared.Guest.{Guest}
 use Rattle.rules.specs.declared.Mapping.{Mapping}
 use Rattle.rules.specs.Sizes.{domainSpan}
-use Rattle.rules.specs.Table.{guestOf, before, overlap, insert}
+use Rattle.rules.specs.Table.{guestOf, before, overlap, insertMapping}
 use Rattle.rules.specs.Guests.{recordsOf, withRecordsOf}
 
 -- the key names its guest and its domain
@@ -87,49 +87,49 @@ before-other r s wr ws m n = go (ltb (s .key) (r .key)) refl (ltb (r .key) (s .k
         (sym (rw (eq-eqb (r .key) (s .key) (omega (arith, ltb-false)), le-leb (r .start) (s .end) (omega (arith, ltb-false, ltb-true)), le-leb (s .start) (r .end) (omega (arith, ltb-false, ltb-true))) at m))
 
 -- a record put in
-pub all-insert : (q : Mapping → Bool) (r : Mapping) (l : List Mapping) → q r ≡ true → all? q l ≡ true → all? q (insert r l) ≡ true
+pub all-insert : (q : Mapping → Bool) (r : Mapping) (l : List Mapping) → q r ≡ true → all? q l ≡ true → all? q (insertMapping r l) ≡ true
 all-insert q r [] h k = rw h
 all-insert q r (s ∷ l) h k = go (before r s) (all-insert q r l h (both-right (q s) (all? q l) k))
   where
-    go : (b : Bool) → all? q (insert r l) ≡ true → all? q (cond b (r ∷ s ∷ l) (s ∷ insert r l)) ≡ true
+    go : (b : Bool) → all? q (insertMapping r l) ≡ true → all? q (cond b (r ∷ s ∷ l) (s ∷ insertMapping r l)) ≡ true
     go true ih = both (q r) (all? q (s ∷ l)) h k
-    go false ih = both (q s) (all? q (insert r l)) (both-left (q s) (all? q l) k) ih
+    go false ih = both (q s) (all? q (insertMapping r l)) (both-left (q s) (all? q l) k) ih
 
-pub length-insert : (r : Mapping) (l : List Mapping) → length (insert r l) ≡ suc (length l)
+pub length-insert : (r : Mapping) (l : List Mapping) → length (insertMapping r l) ≡ suc (length l)
 length-insert r [] = refl
 length-insert r (s ∷ l) = go (before r s) (length-insert r l)
   where
-    go : (b : Bool) → length (insert r l) ≡ suc (length l) → length (cond b (r ∷ s ∷ l) (s ∷ insert r l)) ≡ suc (suc (length l))
+    go : (b : Bool) → length (insertMapping r l) ≡ suc (length l) → length (cond b (r ∷ s ∷ l) (s ∷ insertMapping r l)) ≡ suc (suc (length l))
     go true ih = refl
     go false ih = ap suc ih
 
 abbrev pub apart : Mapping → Mapping → Bool
 apart r s = not (overlap r s)
 
-pub insert-ordered : (r : Mapping) (l : List Mapping) → wide r ≡ true → all? wide l ≡ true → all? (apart r) l ≡ true → pairwise before l ≡ true → pairwise before (insert r l) ≡ true
+pub insert-ordered : (r : Mapping) (l : List Mapping) → wide r ≡ true → all? wide l ≡ true → all? (apart r) l ≡ true → pairwise before l ≡ true → pairwise before (insertMapping r l) ≡ true
 insert-ordered r [] wr wl m h = refl
 insert-ordered r (s ∷ l) wr wl m h =
     go (before r s) refl (insert-ordered r l wr (both-right (wide s) (all? wide l) wl) (both-right (apart r s) (all? (apart r) l) m) (both-right (all? (before s) l) (pairwise before l) h))
   where
-    go : (b : Bool) → before r s ≡ b → pairwise before (insert r l) ≡ true → pairwise before (cond b (r ∷ s ∷ l) (s ∷ insert r l)) ≡ true
+    go : (b : Bool) → before r s ≡ b → pairwise before (insertMapping r l) ≡ true → pairwise before (cond b (r ∷ s ∷ l) (s ∷ insertMapping r l)) ≡ true
     go true e ih =
         both (all? (before r) (s ∷ l)) (pairwise before (s ∷ l))
         (both (before r s) (all? (before r) l) e (all-imp (before s) (before r) l (λ t k. before-trans r s t e k) (both-left (all? (before s) l) (pairwise before l) h)))
         h
     go false e ih =
-        both (all? (before s) (insert r l)) (pairwise before (insert r l))
+        both (all? (before s) (insertMapping r l)) (pairwise before (insertMapping r l))
         (all-insert (before s) r l (before-other r s wr (both-left (wide s) (all? wide l) wl) (both-left (apart r s) (all? (apart r) l) m) e) (both-left (all? (before s) l) (pairwise before l) h))
         ih
 
-pub insert-apart : (r : Mapping) (l : List Mapping) → all? (apart r) l ≡ true → pairwise apart l ≡ true → pairwise apart (insert r l) ≡ true
+pub insert-apart : (r : Mapping) (l : List Mapping) → all? (apart r) l ≡ true → pairwise apart l ≡ true → pairwise apart (insertMapping r l) ≡ true
 insert-apart r [] m h = refl
 insert-apart r (s ∷ l) m h =
     go (before r s) (insert-apart r l (both-right (apart r s) (all? (apart r) l) m) (both-right (all? (apart s) l) (pairwise apart l) h))
   where
-    go : (b : Bool) → pairwise apart (insert r l) ≡ true → pairwise apart (cond b (r ∷ s ∷ l) (s ∷ insert r l)) ≡ true
+    go : (b : Bool) → pairwise apart (insertMapping r l) ≡ true → pairwise apart (cond b (r ∷ s ∷ l) (s ∷ insertMapping r l)) ≡ true
     go true ih = both (all? (apart r) (s ∷ l)) (pairwise apart (s ∷ l)) m h
     go false ih =
-        both (all? (apart s) (insert r l)) (pairwise apart (insert r l))
+        both (all? (apart s) (insertMapping r l)) (pairwise apart (insertMapping r l))
         (all-insert (apart s) r l (overlap-sym r s (both-left (apart r s) (all? (apart r) l) m)) (both-left (all? (apart s) l) (pairwise apart l) h))
         ih
 

@@ -23,7 +23,7 @@ use Rattle.rules.specs.Table.{keyOf, overlap}
 use Rattle.rules.specs.State.{Attachment, World, Device, configOf, read}
 use Rattle.rules.specs.Guests.{Own, Part, own, part, recordsOf, withRecords}
 use Rattle.rules.specs.Requests.{INVAL, NOMEM, ATTACH, DETACH, MAP, requestRefusals, typeOf, domainField, endpointField, attachReserved, virtStart, virtEnd, unmapReserved}
-use Rattle.rules.specs.Handlers.{Steps, settle, attached, leave, attachSteps, attach, detachSteps, detach, formSteps, recordSteps, mapSteps, addMapping, inside, without, unmapSteps, unmap, askedFor, handle}
+use Rattle.rules.specs.Handlers.{Steps, settle, attached, leave, attachSteps, handleAttach, detachSteps, handleDetach, formSteps, recordSteps, mapSteps, handleMap, inside, without, unmapSteps, handleUnmap, askedFor, handle}
 use Rattle.rules.specs.Access.{translated, blocked, decided, access}
 use Rattle.rules.specs.Sound.{sound, guest}
 use Rattle.rules.specs.Device.{Call, request, access-by, reset-of, fetch-for, Reply, refused, requested, rule, caller, numbered, work, step}
@@ -45,8 +45,8 @@ settled-by l p q s h e = go (firstFailing l) e
 never-nomem : (l : Steps) (p q : Part) → all? (λ s. not (eqb (s .1) NOMEM)) l ≡ true → settle (firstFailing l) p q .0 ≡ NOMEM → ⊥
 never-nomem l p q h e = true-false {P = ⊥} (not (eqb NOMEM NOMEM)) (failing-among (λ n. not (eqb n NOMEM)) l NOMEM (settled-by l p q NOMEM (omega arith) e) h) refl
 
-map-nomem : (o : Own) (p : Part) (d : Domain) (r : Mapping) → addMapping o p d r .0 ≡ NOMEM → o .share ≤ length (p .records)
-unfolding addMapping
+map-nomem : (o : Own) (p : Part) (d : Domain) (r : Mapping) → handleMap o p d r .0 ≡ NOMEM → o .share ≤ length (p .records)
+unfolding handleMap
 map-nomem o p d r e = go (any? (overlap r) (p .records)) (leb (o .share) (length (p .records))) refl late
   where
     late : firstFailing ((any? (overlap r) (p .records), INVAL) ∷ (leb (o .share) (length (p .records)), NOMEM) ∷ []) ≡ some NOMEM
@@ -68,12 +68,12 @@ handle-nomem o p r = go (eqb (typeOf r) ATTACH) (eqb (typeOf r) DETACH) (eqb (ty
     e = endpointField r
 
     go : (t u v : Bool)
-        → cond t (attach o p d e (attachReserved r)) (cond u (detach o p d e (attachReserved r)) (cond v (addMapping o p d (askedFor o r)) (unmap o p d (virtStart r) (virtEnd r) (unmapReserved r)))) .0 ≡ NOMEM
+        → cond t (handleAttach o p d e (attachReserved r)) (cond u (handleDetach o p d e (attachReserved r)) (cond v (handleMap o p d (askedFor o r)) (handleUnmap o p d (virtStart r) (virtEnd r) (unmapReserved r)))) .0 ≡ NOMEM
         → o .share ≤ length (p .records)
-    go true u v i = absurd (never-nomem (attachSteps o d e (attachReserved r)) p (attached o e d p) refl (unfold attach in i))
-    go false true v i = absurd (never-nomem (detachSteps o p d e (attachReserved r)) p (leave o e d p) refl (unfold detach in i))
+    go true u v i = absurd (never-nomem (attachSteps o d e (attachReserved r)) p (attached o e d p) refl (unfold handleAttach in i))
+    go false true v i = absurd (never-nomem (detachSteps o p d e (attachReserved r)) p (leave o e d p) refl (unfold handleDetach in i))
     go false false true i = map-nomem o p d (askedFor o r) i
-    go false false false i = absurd (never-nomem (unmapSteps o p d (virtStart r) (virtEnd r) (unmapReserved r)) p (withRecords (without (inside (keyOf (o .guest) d) (virtStart r) (virtEnd r)) (p .records)) p) refl (unfold unmap in i))
+    go false false false i = absurd (never-nomem (unmapSteps o p d (virtStart r) (virtEnd r) (unmapReserved r)) p (withRecords (without (inside (keyOf (o .guest) d) (virtStart r) (virtEnd r)) (p .records)) p) refl (unfold handleUnmap in i))
 
 request-nomem : (o : Own) (p : Part) (r w : List ℕ) (m : Option Answer) → firstFailing (requestRefusals r (length w)) ≡ m → usedLength (requested o p r w m .0 .answer) ≡ 4 → getD (requested o p r w m .0 .buffer) 0 0 ≡ NOMEM → o .share ≤ length (p .records)
 unfolding requested

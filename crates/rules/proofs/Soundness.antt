@@ -19,9 +19,9 @@ use Rattle.rules.specs.declared.State.{State}
 use Rattle.rules.specs.declared.Mapping.{Mapping}
 use Rattle.rules.specs.declared.Fault.{Fault}
 use Rattle.rules.specs.Sizes.{maxGuests, maxEndpoints, maxRecords, maxFaults, maxLost, faultPlaces}
-use Rattle.rules.specs.Configuration.{Config, share, first, last, good}
+use Rattle.rules.specs.Configuration.{Config, share, windowFirst, windowLast, good}
 use Rattle.rules.specs.Table.{guestOf, records, tableOf}
-use Rattle.rules.specs.State.{Attachment, Log, World, noFault, noLog, configOf, attachment, read, trimmed, flagOf, numberOf, logOf, placed, stateOf, write}
+use Rattle.rules.specs.State.{Attachment, Log, World, noFault, noLog, configOf, attachment, read, trimmed, flagOf, numberOf, logOf, faultPlaced, stateOf, write}
 use Rattle.rules.specs.Guests.{Own, own, part, recordsOf}
 use Rattle.rules.specs.Sound.{guest, recordGood, attachmentGood, faultGood, zeroFrom, faultZero, faultPlaceGood, unusedTests, soundTests, sound}
 use Rattle.rules.proofs.Parts.{inRange, recordOk, logTests, logOk}
@@ -101,9 +101,9 @@ module _ (c : Config) (w : World) (h : Whole c w) where
       closed (unusedTests (stateOf c w)) (
         zero-trimmed (c .settings .guests) (share (c .settings)),
         (
-          zero-trimmed (c .settings .guests) (first (c .settings)),
+          zero-trimmed (c .settings .guests) (windowFirst (c .settings)),
           (
-            zero-trimmed (c .settings .guests) (last (c .settings)),
+            zero-trimmed (c .settings .guests) (windowLast (c .settings)),
             (
               zero-tab (c .settings .guests) maxGuests (λ g. length (logOf w g .faults)) (λ g k m. rw (no-log c w h g k)),
               (
@@ -140,7 +140,7 @@ module _ (c : Config) (w : World) (h : Whole c w) where
       count = unfold stateOf in getD-tab maxGuests (λ k. length (logOf w k .faults)) (i / maxFaults) 0 (omega arith)
 
       go : (b : Bool) → ltb (i % maxFaults) (length (logOf w g .faults)) ≡ b → (t : Bool) → ltb g (c .settings .guests) ≡ t
-          → cond b (faultGood (own c (guest g)) (placed w i)) (faultZero (placed w i)) ≡ true
+          → cond b (faultGood (own c (guest g)) (faultPlaced w i)) (faultZero (faultPlaced w i)) ≡ true
       go true e true f =
           unfold logOk in all-at (faultGood (own c (guest g))) (logOf w g .faults) (i % maxFaults) noFault (opened (logTests (own c (guest g)) (logOf w g)) (log-good g (ltb-true g _ f)) .1 .1 .0) (ltb-true _ _ e)
       go true e false f = absurd (omega (arith, ltb-true (i % maxFaults) (length (logOf w g .faults)) e, ap (λ (x : Log). length (x .faults)) (no-log c w h g (ltb-false g _ f))))

@@ -18,7 +18,7 @@ use Rattle.rules.specs.declared.Fault.{Fault}
 use Rattle.rules.specs.Sizes.{maxGuests, maxEndpoints, maxFaults, maxLost, faultPlaces}
 use Rattle.rules.specs.Configuration.{Config, good}
 use Rattle.rules.specs.Table.{records, tableOf}
-use Rattle.rules.specs.State.{Attachment, Log, World, noFault, noLog, configOf, attachment, faultAt, logAt, read, trimmed, flagOf, numberOf, logOf, placed, stateOf, write}
+use Rattle.rules.specs.State.{Attachment, Log, World, noFault, noLog, configOf, attachment, faultAt, logAt, read, trimmed, flagOf, numberOf, logOf, faultPlaced, stateOf, write}
 use Rattle.rules.specs.Guests.{own, part}
 use Rattle.rules.specs.Sound.{guest}
 use Rattle.rules.proofs.Parts.{logTests, logOk}
@@ -57,10 +57,10 @@ place-fault : (g j : ℕ) → j < maxFaults → (maxFaults * g + j) % maxFaults 
 place-fault g j h = omega arith
 
 -- the fault at a place is the one placed there
-pub fault-back : (c : Config) (w : World) (i : ℕ) → i < faultPlaces → faultAt (stateOf c w) i ≡ placed w i
+pub fault-back : (c : Config) (w : World) (i : ℕ) → i < faultPlaces → faultAt (stateOf c w) i ≡ faultPlaced w i
 unfolding stateOf
 fault-back c w i h =
-    rw (getD-tab faultPlaces (λ k. placed w k .reason) i 0 h, getD-tab faultPlaces (λ k. placed w k .flags) i 0 h, getD-tab faultPlaces (λ k. placed w k .endpoint .0) i 0 h, getD-tab faultPlaces (λ k. placed w k .address) i 0 h)
+    rw (getD-tab faultPlaces (λ k. faultPlaced w k .reason) i 0 h, getD-tab faultPlaces (λ k. faultPlaced w k .flags) i 0 h, getD-tab faultPlaces (λ k. faultPlaced w k .endpoint .0) i 0 h, getD-tab faultPlaces (λ k. faultPlaced w k .address) i 0 h)
 
 log-room : (c : Config) (w : World) → Whole c w → (g : ℕ) → g < c .settings .guests → (length (logOf w g .faults) ≤ maxFaults) × (logOf w g .lost ≤ maxLost)
 log-room c w h g l = unfold part logOk in (let e = opened (logTests (own c (guest g)) (logOf w g)) (h .parts (guest g) l .log) in (leb-true _ _ (e .0), leb-true _ _ (e .1 .0)))

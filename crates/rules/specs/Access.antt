@@ -51,13 +51,13 @@ translated e address kind p none = blocked Unmapped (faultOf 2 e address kind) p
 translated e address kind p (some r) = (Through (address - r .start + r .phys), p)
 
 -- the record by which an access of an endpoint in the key's domain goes through
-unfoldable pub lookup : ℕ → ℕ → ℕ → List Mapping → Option Mapping
-lookup key address kind l = find (permits key address kind) l
+unfoldable pub findMapping : ℕ → ℕ → ℕ → List Mapping → Option Mapping
+findMapping key address kind l = find (permits key address kind) l
 
 -- "Unattached: 7."
 unfoldable pub decided : Own → Part → Endpoint → ℕ → ℕ → Attachment → Answer × Part
 decided o p e address kind none = blocked Unattached (faultOf 1 e address kind) p
-decided o p e address kind (some d) = translated e address kind p (lookup (keyOf (o .guest) d) address kind (p .records))
+decided o p e address kind (some d) = translated e address kind p (findMapping (keyOf (o .guest) d) address kind (p .records))
 
 -- "An access names endpoint, address and read or write."
 unfoldable pub access : Own → Part → Endpoint → ℕ → ℕ → Answer × Part

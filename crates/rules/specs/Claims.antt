@@ -13,7 +13,7 @@ use Rattle.rules.specs.declared.Domain.{Domain}
 use Rattle.rules.specs.declared.Mapping.{Mapping}
 use Rattle.rules.specs.declared.Answer.the-variants.{Done, Through}
 use Rattle.rules.specs.Sizes.{maxRecords}
-use Rattle.rules.specs.Configuration.{Config, share, first, last}
+use Rattle.rules.specs.Configuration.{Config, share, windowFirst, windowLast}
 use Rattle.rules.specs.Table.{keyOf, mapping}
 use Rattle.rules.specs.State.{Device, configOf, read}
 use Rattle.rules.specs.Guests.{Part, own, part}
@@ -58,7 +58,7 @@ GuestsApart =
 -- 2. "NO ACCESS EVER LANDS OUTSIDE ITS OWNER'S WINDOW": "An access lands at the address given with 0."
 
 abbrev pub WithinWindow : Config → Guest → Reply → Type 0
-WithinWindow c g a = number (a .answer) ≡ 0 → (first (c .settings) (g .0) ≤ addressOf (a .answer)) × (addressOf (a .answer) ≤ last (c .settings) (g .0))
+WithinWindow c g a = number (a .answer) ≡ 0 → (windowFirst (c .settings) (g .0) ≤ addressOf (a .answer)) × (addressOf (a .answer) ≤ windowLast (c .settings) (g .0))
 
 abbrev pub AccessesStayInside : Type 0
 AccessesStayInside =

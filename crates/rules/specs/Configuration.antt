@@ -20,15 +20,15 @@ abbrev pub share : Settings → ℕ → ℕ
 share s g = getD (s .shares) g 0
 
 -- the first and the last address of guest g's window
-abbrev pub first : Settings → ℕ → ℕ
-first s g = getD (s .firsts) g 0
+abbrev pub windowFirst : Settings → ℕ → ℕ
+windowFirst s g = getD (s .firsts) g 0
 
-abbrev pub last : Settings → ℕ → ℕ
-last s g = getD (s .lasts) g 0
+abbrev pub windowLast : Settings → ℕ → ℕ
+windowLast s g = getD (s .lasts) g 0
 
 -- the windows of guests g and h have an address in common
 abbrev pub shareAddress : Settings → ℕ → ℕ → Bool
-shareAddress s g h = leb (first s g) (last s h) && leb (first s h) (last s g)
+shareAddress s g h = leb (windowFirst s g) (windowLast s h) && leb (windowFirst s h) (windowLast s g)
 
 -- "Configuration is good when:" each of these tests passes
 abbrev pub settingsTests : Settings → List Bool
@@ -37,7 +37,7 @@ settingsTests s =
     leb 1 (s .guests)
     ∷ leb (s .guests) maxGuests
     -- "each window's first ≤ last"
-    ∷ below (s .guests) (λ g. leb (first s g) (last s g))
+    ∷ below (s .guests) (λ g. leb (windowFirst s g) (windowLast s g))
     -- "no two windows share an address"
     ∷ below (s .guests) (λ g. below g (λ h. not (shareAddress s g h)))
     -- "shares sum to at most 256"

@@ -16,7 +16,7 @@ use Rattle.rules.specs.Table.{tableOf, before, overlap}
 use Rattle.rules.specs.State.{Device, configOf, read, write, stateOf, trimmed, start, zeroState}
 use Rattle.rules.specs.Guests.{own, part, replace, withRecordsOf}
 use Rattle.rules.specs.Requests.{OK, RANGE, NOMEM, ATTACH, MAP, UNMAP}
-use Rattle.rules.specs.Handlers.{settle, outside, isIn, exists, listed, ofKey, without, leave, enter, moveFrom, attached, attach, detach, granularity, formSteps, addMapping, inside, straddles, unmap, handle}
+use Rattle.rules.specs.Handlers.{settle, outside, isIn, exists, listed, ofKey, without, leave, enter, moveFrom, attached, handleAttach, handleDetach, granularity, formSteps, handleMap, inside, straddles, handleUnmap, handle}
 use Rattle.rules.specs.Access.{reset}
 use Rattle.rules.specs.Sound.{guest, recordGood, attachmentGood, faultGood, zeroFrom, faultPlaceGood, sound}
 use Rattle.rules.specs.Device.{Call, request, Reply, requested, rule, caller, work, worked, step, setUp}
@@ -95,17 +95,17 @@ told r = number (r .answer) ∷ r .buffer
 worked-request : ℕ → List ℕ
 worked-request status = 0 ∷ status ∷ 0 ∷ 0 ∷ 0 ∷ []
 
-range : Mapping → ℕ × ℕ
-range r = (r .start, r .end)
+addressesOf : Mapping → ℕ × ℕ
+addressesOf r = (r .start, r .end)
 
 -- what the definitions of the device give for an example, and what document 01 wants
-pub outcome : Example → List (List ℕ) × List (ℕ × ℕ)
-outcome e = (L.map told (given step every ready (e .calls)), L.map range (read (after step ready (e .calls)) .records))
+pub shown : Example → List (List ℕ) × List (ℕ × ℕ)
+shown e = (L.map told (given step every ready (e .calls)), L.map addressesOf (read (after step ready (e .calls)) .records))
 
 pub wanted : Example → List (List ℕ) × List (ℕ × ℕ)
 wanted e = (L.map worked-request (e .statuses), e .held)
 
 -- P1 to P10
-pub worked-examples : L.map outcome examples ≡ L.map wanted examples
-unfolding outcome wanted examples config asks attaches maps unmaps ready told worked-request range below sumBelow tabFrom trailingZeros goodSettings goodLists good tableOf before overlap configOf read write stateOf trimmed start zeroState own part replace withRecordsOf settle outside isIn exists listed ofKey without leave enter moveFrom attached attach detach granularity formSteps addMapping inside straddles unmap handle reset recordGood attachmentGood faultGood zeroFrom faultPlaceGood sound requested rule caller work worked step setUp
+pub worked-examples : L.map shown examples ≡ L.map wanted examples
+unfolding shown wanted examples config asks attaches maps unmaps ready told worked-request addressesOf below sumBelow tabFrom trailingZeros goodSettings goodLists good tableOf before overlap configOf read write stateOf trimmed start zeroState own part replace withRecordsOf settle outside isIn exists listed ofKey without leave enter moveFrom attached handleAttach handleDetach granularity formSteps handleMap inside straddles handleUnmap handle reset recordGood attachmentGood faultGood zeroFrom faultPlaceGood sound requested rule caller work worked step setUp
 worked-examples = refl

@@ -8,7 +8,7 @@ use Rattle.rules.specs.declared.Guest.{Guest}
 use Rattle.rules.specs.declared.InputRange.{InputRange}
 use Rattle.rules.specs.declared.DomainRange.{DomainRange}
 use Rattle.rules.specs.declared.Mapping.{Mapping}
-use Rattle.rules.specs.Configuration.{Config, share, first, last}
+use Rattle.rules.specs.Configuration.{Config, share, windowFirst, windowLast}
 use Rattle.rules.specs.Table.{guestOf}
 use Rattle.rules.specs.State.{Attachment, Log, World, logOf}
 
@@ -34,8 +34,8 @@ own c g =
     record {
       guest = g;
       share = share (c .settings) (g .0);
-      first = first (c .settings) (g .0);
-      last = last (c .settings) (g .0);
+      first = windowFirst (c .settings) (g .0);
+      last = windowLast (c .settings) (g .0);
       mask = c .settings .mask;
       input = c .settings .input;
       domains = c .settings .domains;

@@ -10,7 +10,7 @@ use Rattle.laws.specs.Lists.{any?, keep, firstFailing}
 use Rattle.rules.specs.declared.Endpoint.{Endpoint}
 use Rattle.rules.specs.declared.Domain.{Domain}
 use Rattle.rules.specs.declared.Mapping.{Mapping}
-use Rattle.rules.specs.Table.{keyOf, mapping, overlap, insert}
+use Rattle.rules.specs.Table.{keyOf, mapping, overlap, insertMapping}
 use Rattle.rules.specs.State.{Attachment}
 use Rattle.rules.specs.Guests.{Own, Part, withAttachments, withRecords}
 use Rattle.rules.specs.Requests.{OK, INVAL, RANGE, NOENT, FAULT, NOMEM, ATTACH, DETACH, MAP, typeOf, domainField, endpointField, attachReserved, virtStart, virtEnd, physStart, mapFlags, unmapReserved}
@@ -94,8 +94,8 @@ attachSteps o d e reserved =
     ∷ (outside (o .domains .start) (o .domains .end) (d .0), RANGE)
     ∷ []
 
-unfoldable pub attach : Own → Part → Domain → Endpoint → ℕ → ℕ × Part
-attach o p d e reserved = settle (firstFailing (attachSteps o d e reserved)) p (attached o e d p)
+unfoldable pub handleAttach : Own → Part → Domain → Endpoint → ℕ → ℕ × Part
+handleAttach o p d e reserved = settle (firstFailing (attachSteps o d e reserved)) p (attached o e d p)
 
 abbrev pub detachSteps : Own → Part → Domain → Endpoint → ℕ → Steps
 detachSteps o p d e reserved =
@@ -108,8 +108,8 @@ detachSteps o p d e reserved =
     ∷ []
 
 -- "Else detached, OK."
-unfoldable pub detach : Own → Part → Domain → Endpoint → ℕ → ℕ × Part
-detach o p d e reserved = settle (firstFailing (detachSteps o p d e reserved)) p (leave o e d p)
+unfoldable pub handleDetach : Own → Part → Domain → Endpoint → ℕ → ℕ × Part
+handleDetach o p d e reserved = settle (firstFailing (detachSteps o p d e reserved)) p (leave o e d p)
 
 -- "g is the lowest set bit of page_size_mask, as a number."
 unfoldable pub granularity : ℕ → ℕ
@@ -144,8 +144,8 @@ mapSteps o p d r =
     ∷ []
 
 -- "Else recorded, OK."
-unfoldable pub addMapping : Own → Part → Domain → Mapping → ℕ × Part
-addMapping o p d r = settle (firstFailing (mapSteps o p d r)) p (withRecords (insert r (p .records)) p)
+unfoldable pub handleMap : Own → Part → Domain → Mapping → ℕ × Part
+handleMap o p d r = settle (firstFailing (mapSteps o p d r)) p (withRecords (insertMapping r (p .records)) p)
 
 -- a record of the key's domain inside the range from a to b
 unfoldable pub inside : ℕ → ℕ → ℕ → Mapping → Bool
@@ -168,8 +168,8 @@ unmapSteps o p d a b reserved =
     ∷ []
 
 -- "else every record of that domain inside the range goes, OK, even if there are none"
-unfoldable pub unmap : Own → Part → Domain → ℕ → ℕ → ℕ → ℕ × Part
-unmap o p d a b reserved =
+unfoldable pub handleUnmap : Own → Part → Domain → ℕ → ℕ → ℕ → ℕ × Part
+handleUnmap o p d a b reserved =
     settle (firstFailing (unmapSteps o p d a b reserved)) p (withRecords (without (inside (keyOf (o .guest) d) a b) (p .records)) p)
 
 -- the record that a MAP request asks for
@@ -179,7 +179,7 @@ askedFor o r = mapping (keyOf (o .guest) (domainField r)) (virtStart r) (virtEnd
 -- the request in the readable part r, by its type
 unfoldable pub handle : Own → Part → List ℕ → ℕ × Part
 handle o p r =
-    cond (eqb (typeOf r) ATTACH) (attach o p (domainField r) (endpointField r) (attachReserved r))
-    (cond (eqb (typeOf r) DETACH) (detach o p (domainField r) (endpointField r) (attachReserved r))
-    (cond (eqb (typeOf r) MAP) (addMapping o p (domainField r) (askedFor o r))
-    (unmap o p (domainField r) (virtStart r) (virtEnd r) (unmapReserved r))))
+    cond (eqb (typeOf r) ATTACH) (handleAttach o p (domainField r) (endpointField r) (attachReserved r))
+    (cond (eqb (typeOf r) DETACH) (handleDetach o p (domainField r) (endpointField r) (attachReserved r))
+    (cond (eqb (typeOf r) MAP) (handleMap o p (domainField r) (askedFor o r))
+    (handleUnmap o p (domainField r) (virtStart r) (virtEnd r) (unmapReserved r))))

@@ -52,8 +52,8 @@ gone o p (reset-of g) r = true
 gone o p (fetch-for g b) r = false
 
 -- how many records a call of the guest's own takes away
-unfoldable pub taken : Own → Part → Call → ℕ
-taken o p x = length (keep (gone o p x) (p .records))
+unfoldable pub takenAway : Own → Part → Call → ℕ
+takenAway o p x = length (keep (gone o p x) (p .records))
 
 -- a MAP answered OK: type 3, worked, and the status byte is OK
 unfoldable pub mapped : Call → Reply → Bool
@@ -65,7 +65,7 @@ mapped (fetch-for g b) a = false
 -- the same over a list of calls, for those of guest g
 abbrev pub takenOver : Config → Guest → Device → List Call → ℕ
 takenOver c g d [] = 0
-takenOver c g d (x ∷ xs) = cond (owns c g x) (taken (own c g) (part c g (read d)) x) 0 + takenOver c g (step d x .1) xs
+takenOver c g d (x ∷ xs) = cond (owns c g x) (takenAway (own c g) (part c g (read d)) x) 0 + takenOver c g (step d x .1) xs
 
 abbrev pub mappedOver : Config → Guest → Device → List Call → ℕ
 mappedOver c g d [] = 0

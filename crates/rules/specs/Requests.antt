@@ -4,7 +4,7 @@ use mathlib.Core.Bool.{Bool, cond, not, _&&_}
 use mathlib.Core.List.{List, [], _∷_}
 use lib.Dec.{leb, ltb, eqb}
 use lib.ListN.{length, getD}
-use Rattle.laws.specs.Bytes.{field}
+use Rattle.laws.specs.Bytes.{leField}
 use Rattle.rules.specs.declared.Endpoint.{Endpoint}
 use Rattle.rules.specs.declared.Domain.{Domain}
 use Rattle.rules.specs.declared.Answer.{Answer}
@@ -63,30 +63,30 @@ abbrev pub typeOf : List ℕ → ℕ
 typeOf r = getD r 0 0
 
 abbrev pub domainField : List ℕ → Domain
-domainField r = record { 0 = field 4 4 r }
+domainField r = record { 0 = leField 4 4 r }
 
 -- ATTACH and DETACH: domain 4, endpoint 4, reserved 8
 abbrev pub endpointField : List ℕ → Endpoint
-endpointField r = record { 0 = field 8 4 r }
+endpointField r = record { 0 = leField 8 4 r }
 
 abbrev pub attachReserved : List ℕ → ℕ
-attachReserved r = field 12 8 r
+attachReserved r = leField 12 8 r
 
 -- MAP: domain 4, virt_start 8, virt_end 8, phys_start 8, flags 4. UNMAP: domain 4, virt_start 8, virt_end 8, reserved 4
 abbrev pub virtStart : List ℕ → ℕ
-virtStart r = field 8 8 r
+virtStart r = leField 8 8 r
 
 abbrev pub virtEnd : List ℕ → ℕ
-virtEnd r = field 16 8 r
+virtEnd r = leField 16 8 r
 
 abbrev pub physStart : List ℕ → ℕ
-physStart r = field 24 8 r
+physStart r = leField 24 8 r
 
 abbrev pub mapFlags : List ℕ → ℕ
-mapFlags r = field 32 4 r
+mapFlags r = leField 32 4 r
 
 abbrev pub unmapReserved : List ℕ → ℕ
-unmapReserved r = field 24 4 r
+unmapReserved r = leField 24 4 r
 
 -- "Requests: 1, 2, 4 (below 4 bytes), 3, 4 (lengths)": the last three, of the readable part r and a writable part of n bytes
 abbrev pub requestRefusals : List ℕ → ℕ → List (Bool × Answer)

@@ -14,7 +14,7 @@ use Rattle.rules.specs.declared.State.{State}
 use Rattle.rules.specs.declared.Mapping.{Mapping}
 use Rattle.rules.specs.declared.Fault.{Fault}
 use Rattle.rules.specs.Sizes.{maxGuests, maxEndpoints, maxFaults, faultPlaces}
-use Rattle.rules.specs.Configuration.{Config, share, first, last}
+use Rattle.rules.specs.Configuration.{Config, share, windowFirst, windowLast}
 use Rattle.rules.specs.Table.{records, tableOf}
 
 -- whether an endpoint is attached, and to which domain
@@ -84,8 +84,8 @@ trimmed s =
     record {
       guests = s .guests;
       shares = tab maxGuests (λ g. cond (ltb g (s .guests)) (share s g) 0);
-      firsts = tab maxGuests (λ g. cond (ltb g (s .guests)) (first s g) 0);
-      lasts = tab maxGuests (λ g. cond (ltb g (s .guests)) (last s g) 0);
+      firsts = tab maxGuests (λ g. cond (ltb g (s .guests)) (windowFirst s g) 0);
+      lasts = tab maxGuests (λ g. cond (ltb g (s .guests)) (windowLast s g) 0);
       mask = s .mask;
       input = s .input;
       domains = s .domains;
@@ -104,8 +104,8 @@ numberOf (some d) = d .0
 abbrev pub logOf : World → ℕ → Log
 logOf w g = getD (w .logs) g noLog
 
-abbrev pub placed : World → ℕ → Fault
-placed w i = getD (logOf w (i / maxFaults) .faults) (i % maxFaults) noFault
+abbrev pub faultPlaced : World → ℕ → Fault
+faultPlaced w i = getD (logOf w (i / maxFaults) .faults) (i % maxFaults) noFault
 
 unfoldable pub stateOf : Config → World → State
 stateOf c w =
@@ -119,10 +119,10 @@ stateOf c w =
       live = length (w .records);
       logged = tab maxGuests (λ g. length (logOf w g .faults));
       lost = tab maxGuests (λ g. logOf w g .lost);
-      reasons = tab faultPlaces (λ i. placed w i .reason);
-      flags = tab faultPlaces (λ i. placed w i .flags);
-      sources = tab faultPlaces (λ i. placed w i .endpoint .0);
-      addresses = tab faultPlaces (λ i. placed w i .address);
+      reasons = tab faultPlaces (λ i. faultPlaced w i .reason);
+      flags = tab faultPlaces (λ i. faultPlaced w i .flags);
+      sources = tab faultPlaces (λ i. faultPlaced w i .endpoint .0);
+      addresses = tab faultPlaces (λ i. faultPlaced w i .address);
     }
 
 unfoldable pub write : Config → World → Device

@@ -52,6 +52,6 @@ unfoldable pub overlap : Mapping → Mapping → Bool
 overlap r s = eqb (r .key) (s .key) && (leb (r .start) (s .end) && leb (s .start) (r .end))
 
 -- a record at its place in the order
-abbrev pub insert : Mapping → List Mapping → List Mapping
-insert r [] = r ∷ []
-insert r (s ∷ l) = cond (before r s) (r ∷ s ∷ l) (s ∷ insert r l)
+abbrev pub insertMapping : Mapping → List Mapping → List Mapping
+insertMapping r [] = r ∷ []
+insertMapping r (s ∷ l) = cond (before r s) (r ∷ s ∷ l) (s ∷ insertMapping r l)

@@ -5,7 +5,7 @@ ghost use Prim.Native.Nat.{_≤_, _<_};
 ghost use lib.Dec.{leb};
 ghost use Rattle.laws.specs.Lists.{below, sumBelow};
 ghost use Rattle.rules.specs.Sizes.{maxGuests};
-ghost use Rattle.rules.specs.Configuration.{share, first, last, shareAddress, goodSettings};
+ghost use Rattle.rules.specs.Configuration.{share, windowFirst, windowLast, shareAddress, goodSettings};
 use rules::Settings;
 use rules::sizes::MAX_GUESTS;
 use rules::sizes::MAX_RECORDS;
@@ -16,7 +16,7 @@ const MAX_SUM: u64 = MAX_RECORDS as u64;
 // Whether the windows of the first n guests are not empty.
 fn windows_filled(s: Settings, n: usize) -> bool
     requires { ⌜ n ≤ maxGuests ⌝ }
-    ensures { λ r. ⌜ r ≡ below n (λ g. leb (first s g) (last s g)) ⌝ }
+    ensures { λ r. ⌜ r ≡ below n (λ g. leb (windowFirst s g) (windowLast s g)) ⌝ }
 {
     let firsts = s.firsts;
     let lasts = s.lasts;

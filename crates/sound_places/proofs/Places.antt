@@ -12,7 +12,7 @@ use Rattle.laws.proofs.Tests.{both, both-left, both-right, true-false, same-tes
 use Rattle.laws.proofs.Tables.{below-at, below-all}
 use Rattle.rules.specs.Sizes.{maxGuests, maxEndpoints, maxFaults, maxLost}
 use Rattle.rules.specs.declared.State.{State}
-use Rattle.rules.specs.Configuration.{share, first, last}
+use Rattle.rules.specs.Configuration.{share, windowFirst, windowLast}
 use Rattle.rules.specs.State.{configOf}
 use Rattle.rules.specs.Sound.{attachmentGood, unusedTests}
 use Rattle.rules.proofs.Zeros.{zero-at, zero-from}
@@ -55,7 +55,7 @@ module _ (s : State) (a : Arrays s) (few : s .settings .guests ≤ maxGuests) (f
   counts g = leb (getD (s .logged) g 0) maxFaults && leb (getD (s .lost) g 0) maxLost
 
   abbrev guest-zeros : ℕ → List Bool
-  guest-zeros g = eqb (share (s .settings) g) 0 ∷ eqb (first (s .settings) g) 0 ∷ eqb (last (s .settings) g) 0 ∷ eqb (getD (s .logged) g 0) 0 ∷ eqb (getD (s .lost) g 0) 0 ∷ []
+  guest-zeros g = eqb (share (s .settings) g) 0 ∷ eqb (windowFirst (s .settings) g) 0 ∷ eqb (windowLast (s .settings) g) 0 ∷ eqb (getD (s .logged) g 0) 0 ∷ eqb (getD (s .lost) g 0) 0 ∷ []
 
   abbrev attachment : ℕ → Bool
   attachment i = attachmentGood (rangeAlone (s .settings .domains)) (getD (s .attached) i 0) (getD (s .domains) i 0)

@@ -9,7 +9,7 @@ use Rattle.rules.specs.Sizes.{maxFaults, maxLost}
 use Rattle.rules.specs.declared.Settings.{Settings}
 use Rattle.rules.specs.declared.DomainRange.{DomainRange}
 use Rattle.rules.specs.declared.State.{State}
-use Rattle.rules.specs.Configuration.{Config, share, first, last}
+use Rattle.rules.specs.Configuration.{Config, share, windowFirst, windowLast}
 use Rattle.rules.specs.State.{configOf}
 use Rattle.rules.specs.Sound.{attachmentGood, unusedTests}
 use Rattle.state.specs.Pieces.{stateWith}
@@ -21,7 +21,7 @@ guestGood used share first last count lost =
     || (not used && every? (eqb share 0 ∷ eqb first 0 ∷ eqb last 0 ∷ eqb count 0 ∷ eqb lost 0 ∷ []))
 
 abbrev pub guestPlace : Settings → List ℕ → List ℕ → ℕ → Bool
-guestPlace s logged lost g = guestGood (ltb g (s .guests)) (share s g) (first s g) (last s g) (getD logged g 0) (getD lost g 0)
+guestPlace s logged lost g = guestGood (ltb g (s .guests)) (share s g) (windowFirst s g) (windowLast s g) (getD logged g 0) (getD lost g 0)
 
 -- a domain range alone: what the test of an attachment looks at
 abbrev pub rangeAlone : DomainRange → Config

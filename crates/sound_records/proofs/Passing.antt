@@ -12,7 +12,7 @@ use Rattle.laws.specs.Lists.{below}
 use Rattle.rules.specs.declared.Settings.{Settings}
 use Rattle.rules.specs.declared.Mapping.{Mapping}
 use Rattle.rules.specs.Sizes.{maxGuests}
-use Rattle.rules.specs.Configuration.{share, first, last}
+use Rattle.rules.specs.Configuration.{share, windowFirst, windowLast}
 use Rattle.rules.specs.Table.{guestOf}
 use Rattle.rules.specs.Guests.{recordsOf}
 use Rattle.rules.specs.Sound.{guest}
@@ -25,7 +25,7 @@ use Rattle.laws.proofs.Turns.{below-same}
 use Rattle.sound_records.proofs.GoingOn.{run-own, run-other}
 
 -- a guest that is one, and one that is none
-pub own-within : (s : Settings) (r : Mapping) → guestOf r < s .guests → ownGood s r ≡ formGood (s .mask) (s .input) (first s (guestOf r)) (last s (guestOf r)) r
+pub own-within : (s : Settings) (r : Mapping) → guestOf r < s .guests → ownGood s r ≡ formGood (s .mask) (s .input) (windowFirst s (guestOf r)) (windowLast s (guestOf r)) r
 unfolding ownGood
 own-within s r h = rw (lt-ltb (guestOf r) (s .guests) h)
 

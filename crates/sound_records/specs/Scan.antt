@@ -8,7 +8,7 @@ use Rattle.laws.specs.Lists.{below, pickBy, tab}
 use Rattle.rules.specs.declared.Settings.{Settings}
 use Rattle.rules.specs.declared.Mapping.{Mapping}
 use Rattle.rules.specs.Sizes.{maxGuests, maxEndpoints}
-use Rattle.rules.specs.Configuration.{share, first, last}
+use Rattle.rules.specs.Configuration.{share, windowFirst, windowLast}
 use Rattle.rules.specs.State.{Attachment, attachment}
 use Rattle.rules.specs.Table.{records, guestOf, domainOf}
 use Rattle.rules.specs.Guests.{recordsOf}
@@ -26,7 +26,7 @@ follows r s = ltb (r .key) (s .key) || (eqb (r .key) (s .key) && ltb (r .end) (s
 
 -- the record's guest is one, and steps 2 to 6 of MAP pass for it
 unfoldable pub ownGood : Settings → Mapping → Bool
-ownGood s r = ltb (guestOf r) (s .guests) && formGood (s .mask) (s .input) (first s (guestOf r)) (last s (guestOf r)) r
+ownGood s r = ltb (guestOf r) (s .guests) && formGood (s .mask) (s .input) (windowFirst s (guestOf r)) (windowLast s (guestOf r)) r
 
 -- step 1 of MAP passes: the record's domain exists for its guest
 unfoldable pub domainGood : ℕ → List ℕ → List ℕ → List ℕ → Mapping → Bool

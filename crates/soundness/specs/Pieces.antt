@@ -12,8 +12,8 @@ use Rattle.rules.specs.State.{Device}
 use Rattle.state.specs.Pieces.{stateWith}
 
 -- state and table of these pieces
-abbrev pub deviceOf : Settings → ℕ → ℕ → List ℕ → List ℕ → List ℕ → List ℕ → List ℕ → List ℕ → List ℕ → List ℕ → List ℕ → List ℕ → List ℕ → Device
-deviceOf settings listed live endpoints owners attached domains logged lost reasons flags sources addresses table =
+abbrev pub deviceWith : Settings → ℕ → ℕ → List ℕ → List ℕ → List ℕ → List ℕ → List ℕ → List ℕ → List ℕ → List ℕ → List ℕ → List ℕ → List ℕ → Device
+deviceWith settings listed live endpoints owners attached domains logged lost reasons flags sources addresses table =
     record { state = stateWith settings listed live endpoints owners attached domains logged lost reasons flags sources addresses; table = table }
 
 -- the tests that come before all others: lengths and counts, then the configuration

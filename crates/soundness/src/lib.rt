@@ -3,7 +3,7 @@ ghost use mathlib.Core.Path.{_≡_};
 ghost use lib.Dec.{eqb};
 ghost use lib.ListN.{length, take};
 ghost use Rattle.rules.specs.Sound.{sound};
-ghost use Rattle.soundness.specs.Pieces.{framed, deviceOf};
+ghost use Rattle.soundness.specs.Pieces.{framed, deviceWith};
 use endpoint_lists::good_lists;
 use rules::Settings;
 use rules::sizes::FAULT_PLACES;
@@ -68,7 +68,7 @@ pub fn is_sound<'a>(
     addresses: &'a [u64; FAULT_PLACES],
     t: &'a [u64],
 ) -> bool
-    ensures { λ r. ⌜ r ≡ sound (deviceOf settings listed live (now (endpoints .entry)) (now (owners .entry)) (now (attached .entry)) (now (domains .entry)) (now (logged .entry)) (now (lost .entry)) (now (reasons .entry)) (now (flags .entry)) (now (sources .entry)) (now (addresses .entry)) (now (t .entry))) ⌝ }
+    ensures { λ r. ⌜ r ≡ sound (deviceWith settings listed live (now (endpoints .entry)) (now (owners .entry)) (now (attached .entry)) (now (domains .entry)) (now (logged .entry)) (now (lost .entry)) (now (reasons .entry)) (now (flags .entry)) (now (sources .entry)) (now (addresses .entry)) (now (t .entry))) ⌝ }
 {
     if !frame_good(settings, listed, live, endpoints, owners, t) {
         return false;

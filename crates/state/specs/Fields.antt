@@ -3,8 +3,8 @@ use Prim.Native.Nat.{ℕ}
 use mathlib.Core.List.{List}
 use Rattle.rules.specs.declared.State.{State}
 
-abbrev pub withAttachments : List ℕ → List ℕ → State → State
-withAttachments a d s =
+abbrev pub withAttached : List ℕ → List ℕ → State → State
+withAttached a d s =
     record {
       settings = s .settings;
       listed = s .listed;

@@ -12,7 +12,7 @@ use Rattle.rules.specs.Sizes.{maxGuests, maxEndpoints, maxFaults}
 use Rattle.items.specs.declared.Item.{Item}
 use Rattle.items.specs.declared.Item.the-variants.{Cut, Wrong, NamedGuest, NamedEndpoint, Start, Request, Access, Reset, Fetch}
 use Rattle.playing.specs.declared.player.Player.{Player}
-use Rattle.items.specs.Items.{GUEST, ENDPOINT, START, ACCESS, RESET, FETCH, bodyLength, kindOf, sizeOf, taken, front, Fits}
+use Rattle.items.specs.Items.{GUEST, ENDPOINT, START, ACCESS, RESET, FETCH, bodyLength, kindOf, sizeOf, itemOf, front, Fits}
 use Rattle.playing.specs.Turns.{Turn, idle, allowed, guestTurn, endpointTurn, startTurn, requestTurn, accessTurn, resetTurn, fetchTurn, turnOf, turn}
 
 -- there is a record to be worked
@@ -75,7 +75,7 @@ Most (Reset g) = Unit {0}
 Most (Fetch g n) = n ≤ maxFaults
 
 pub asks-few : (s : List ℕ) → Most (front s)
-unfolding front taken
+unfolding front itemOf
 asks-few s =
     either-way Most (eqb (length s) 0) (λ _. tt) (λ _.
     either-way Most (eqb (bodyLength (kindOf s)) 0) (λ _. tt) (λ _.

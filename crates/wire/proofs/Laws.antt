@@ -10,10 +10,10 @@ use lib.Dec.{leb}
 use lib.ListN.{length, getD, take, drop, set}
 use lib.Seq.{drop-cons, paste-suc}
 use borrow.Author.Tests.{le-leb, lt-leb}
-use Rattle.laws.specs.Bytes.{field}
+use Rattle.laws.specs.Bytes.{leField}
 
 -- a field with one more byte before it
-pub field-next : (bs : List ℕ) (k n i j : ℕ) → i ≡ suc j → i ≤ n → k + n ≤ length bs → 256 * field (k + i) (n - i) bs + getD bs (k + j) 0 ≡ field (k + j) (n - j) bs
+pub field-next : (bs : List ℕ) (k n i j : ℕ) → i ≡ suc j → i ≤ n → k + n ≤ length bs → 256 * leField (k + i) (n - i) bs + getD bs (k + j) 0 ≡ leField (k + j) (n - j) bs
 field-next bs k n i j e h l =
     let a : k + i ≡ suc (k + j) = omega arith in
     let b : n - j ≡ suc (n - i) = omega arith in

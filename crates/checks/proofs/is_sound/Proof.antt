@@ -3,15 +3,15 @@ use Prim.Native.Nat.{ℕ, _≤_}
 use native.Mathlib.Omega.{arith}
 use mir.Syntax.{w64}
 use mir.Val.{Fits}
-use Rattle.rules.specs.Configuration.{last}
+use Rattle.rules.specs.Configuration.{windowLast}
 use borrow.Author.Needs.{needs}
 use Rattle.state.proofs.Lengths.{shaped}
 use Rattle.checks.proofs.is_sound.Statement.{statement}
 use Rattle.checks.proofs.is_sound.Tie as tie
 
-lasts-fit : (c : tie.Start) (i : ℕ) → last (c .args .t1 .settings) i ≤ 18446744073709551615
+lasts-fit : (c : tie.Start) (i : ℕ) → windowLast (c .args .t1 .settings) i ≤ 18446744073709551615
 lasts-fit c i =
-    let f : Fits w64 (last (c .args .t1 .settings) i) = search needs in
+    let f : Fits w64 (windowLast (c .args .t1 .settings) i) = search needs in
     omega (arith, f .fits)
 
 returns : tie.Need-returns

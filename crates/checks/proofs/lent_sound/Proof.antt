@@ -5,7 +5,7 @@ use native.Mathlib.Omega.{arith}
 use mir.Syntax.{w64}
 use mir.Val.{Fits}
 use Rattle.rules.specs.Sizes.{maxGuests}
-use Rattle.rules.specs.Configuration.{last}
+use Rattle.rules.specs.Configuration.{windowLast}
 use lib.ListN.{length}
 use borrow.Author.Needs.{needs}
 use Rattle.checks.proofs.lent_sound.Statement.{statement}
@@ -14,9 +14,9 @@ use Rattle.checks.proofs.lent_sound.Tie as tie
 own-lengths : (c : tie.Start) → (length (c .args .settings .shares) ≡ maxGuests) × (length (c .args .settings .firsts) ≡ maxGuests) × (length (c .args .settings .lasts) ≡ maxGuests)
 own-lengths c = (search needs, search needs, search needs)
 
-lasts-fit : (c : tie.Start) (i : ℕ) → last (c .args .settings) i ≤ 18446744073709551615
+lasts-fit : (c : tie.Start) (i : ℕ) → windowLast (c .args .settings) i ≤ 18446744073709551615
 lasts-fit c i =
-    let f : Fits w64 (last (c .args .settings) i) = search needs in
+    let f : Fits w64 (windowLast (c .args .settings) i) = search needs in
     omega (arith, f .fits)
 
 returns : tie.Need-returns

@@ -3,19 +3,19 @@ use native.Mathlib.Omega.{arith}
 use borrow.Author.Needs.{needs}
 use borrow.Author.Tests.{le-leb, lt-leb}
 use lib.ListN.{getD}
-use Rattle.items.specs.Items.{taken}
+use Rattle.items.specs.Items.{itemOf}
 use Rattle.items.proofs.Fields.{field-there}
 use Rattle.items.proofs.access_item.Statement.{statement}
 use Rattle.items.proofs.access_item.Tie as tie
 
 neither : tie.Need-returns
-unfolding taken
+unfolding itemOf
 neither c =
     let s = c .before .before .before in
     rw (s .pre .1, lt-leb (getD (s .args .s .now) 13 0) 1 (omega arith))
 
 either : tie.Need-returns-2
-unfolding taken
+unfolding itemOf
 either c =
     let f = c .before in
     let e = f .before in

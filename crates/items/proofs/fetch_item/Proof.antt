@@ -3,18 +3,18 @@ use native.Mathlib.Omega.{arith}
 use borrow.Author.Needs.{needs}
 use borrow.Author.Tests.{le-leb, lt-leb}
 use lib.ListN.{getD}
-use Rattle.items.specs.Items.{taken}
+use Rattle.items.specs.Items.{itemOf}
 use Rattle.items.proofs.fetch_item.Statement.{statement}
 use Rattle.items.proofs.fetch_item.Tie as tie
 
 too-many : tie.Need-returns
-unfolding taken
+unfolding itemOf
 too-many c =
     let s = c .before .before in
     rw (s .pre .1, lt-leb (getD (s .args .s .now) 2 0) 16 (omega arith))
 
 enough : tie.Need-returns-2
-unfolding taken
+unfolding itemOf
 enough c =
     let s = c .before .before .before .before in
     rw (s .pre .1, le-leb (getD (s .args .s .now) 2 0) 16 (omega arith))

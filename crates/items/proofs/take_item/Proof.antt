@@ -2,7 +2,7 @@
 use native.Mathlib.Omega.{arith}
 use borrow.Author.Needs.{needs}
 use borrow.Author.Tests.{ne-eqb}
-use Rattle.items.specs.Items.{taken, bodyLength}
+use Rattle.items.specs.Items.{itemOf, bodyLength}
 use Rattle.items.proofs.Fields.{sized}
 use Rattle.items.proofs.take_item.Statement.{statement}
 use Rattle.items.proofs.take_item.Tie as tie
@@ -41,23 +41,23 @@ fetch-requires c κs =
     (sized 35 (s .args .s .now) (c .match .keys6) (s .pre .1), c .match .keys6)
 
 guest : tie.Need-returns
-unfolding taken
+unfolding itemOf
 guest c = rw (c .before .match .keys1, c .guest-fields .ensures)
 
 endpoint : tie.Need-returns-2
-unfolding taken
+unfolding itemOf
 endpoint c = rw (c .before .before .match .keys2, c .before .endpoint-field .ensures)
 
 start : tie.Need-returns-3
-unfolding taken
+unfolding itemOf
 start c = rw (c .before .match .keys3, c .start-fields .ensures)
 
 reset : tie.Need-returns-5
-unfolding taken
+unfolding itemOf
 reset c = rw (c .before .match .keys5)
 
 request : tie.Need-returns-7
-unfolding taken
+unfolding itemOf
 request c =
     let r = c .before .match .rest in
     rw (

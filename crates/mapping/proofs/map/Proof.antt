@@ -44,7 +44,7 @@ add-next c =
 
 returns-3 : tie.Need-returns-3
 returns-3 c =
-    let w = c .before .before .insert in
+    let w = c .before .before .insert-mapping in
     let e = c .before .before .before .before in
     let x = e .before .map-status in
     let i = e .before .before .before in

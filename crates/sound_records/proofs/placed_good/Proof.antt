@@ -13,7 +13,7 @@ use Rattle.laws.specs.Lists.{below}
 use Rattle.laws.proofs.Tests.{both}
 use Rattle.rules.specs.declared.Mapping.{Mapping}
 use Rattle.rules.specs.Sizes.{maxGuests}
-use Rattle.rules.specs.Configuration.{share, first, last}
+use Rattle.rules.specs.Configuration.{share, windowFirst, windowLast}
 use Rattle.rules.specs.Table.{records, guestOf}
 use Rattle.table.specs.Records.{noMapping}
 use Rattle.table.proofs.Laws.{gone}
@@ -139,7 +139,7 @@ loop-again c =
     let a = start s .args in
     let x = it g in
     let i = s .loop .i in
-    let F : Mapping → Bool = formGood (a .settings .mask) (a .settings .input) (first (a .settings) (guestOf x)) (last (a .settings) (guestOf x)) in
+    let F : Mapping → Bool = formGood (a .settings .mask) (a .settings .input) (windowFirst (a .settings) (guestOf x)) (windowLast (a .settings) (guestOf x)) in
     let k : ℕ = run F (x .key) (x .end) (later g) in
     let e : c .run-end .result ≡ i + 1 + k = c .run-end .ensures in
     let q : k ≤ length (all s) - (i + 1) = rw (← length-drop (i + 1) (all s)) (run-within F (x .key) (x .end) (later g)) in

@@ -10,7 +10,7 @@ use Rattle.rules.specs.Configuration.{good}
 use Rattle.rules.specs.State.{configOf}
 use Rattle.rules.specs.Guests.{own}
 use Rattle.rules.specs.Sound.{attachmentGood, faultGood, faultPlaceGood}
-use Rattle.soundness.specs.Pieces.{deviceOf}
+use Rattle.soundness.specs.Pieces.{deviceWith}
 use Rattle.soundness.proofs.Verdict.{refused, places-refused, granted, frame-refused, in-frame, frame-guests, frame-endpoints, frame-places, decided}
 use Rattle.soundness.proofs.is_sound.Statement.{statement}
 use Rattle.soundness.proofs.is_sound.Tie as tie
@@ -51,7 +51,7 @@ returns-5 c =
     let e1 = e2 .before .before in
     let a = e1 .before .before .before .args in
     let d =
-    deviceOf (a .settings) (a .listed) (a .live) (a .endpoints .now) (a .owners .now) (a .attached .now) (a .domains .now) (a .logged .now) (a .lost .now) (a .reasons .now) (a .flags .now) (a .sources .now)
+    deviceWith (a .settings) (a .listed) (a .live) (a .endpoints .now) (a .owners .now) (a .attached .now) (a .domains .now) (a .logged .now) (a .lost .now) (a .reasons .now) (a .flags .now) (a .sources .now)
     (a .addresses .now) (a .t .now) in
     let k = sym (e1 .before .frame-good .ensures) ∙ not-false _ (e1 .if1 .left) in
     let f = in-frame _ _ _ _ _ _ k in

@@ -5,7 +5,7 @@ use native.Mathlib.Omega.{arith}
 use borrow.Author.Needs.{needs}
 use borrow.Author.Tests.{le-leb, lt-leb}
 use lib.ListN.{length}
-use Rattle.laws.specs.Bytes.{field}
+use Rattle.laws.specs.Bytes.{leField}
 use Rattle.wire.proofs.Laws.{no-field, power-above}
 use Rattle.wire.proofs.fields.field_at.Statement.{statement}
 use Rattle.wire.proofs.fields.field_at.Tie as tie
@@ -18,12 +18,12 @@ too-wide c =
 too-short : tie.Need-returns-2
 too-short c =
     let a = c .before .before .before .args in
-    (sym (no-field (a .k) (a .n) (length (a .bytes .now)) (field (a .k) (a .n) (a .bytes .now)) (omega arith) (omega arith)), power-above (a .n))
+    (sym (no-field (a .k) (a .n) (length (a .bytes .now)) (leField (a .k) (a .n) (a .bytes .now)) (omega arith) (omega arith)), power-above (a .n))
 
 past-the-end : tie.Need-returns-3
 past-the-end c =
     let a = c .before .before .before .before .args in
-    (sym (no-field (a .k) (a .n) (length (a .bytes .now)) (field (a .k) (a .n) (a .bytes .now)) (omega arith) (omega arith)), power-above (a .n))
+    (sym (no-field (a .k) (a .n) (length (a .bytes .now)) (leField (a .k) (a .n) (a .bytes .now)) (omega arith) (omega arith)), power-above (a .n))
 
 there : tie.Need-returns-4
 there c =

@@ -3,13 +3,13 @@ use Prim.Native.Nat.{_+_, _-_, _^_, _<_, _≤_}
 use mathlib.Core.Path.{_≡_}
 use native.Mathlib.Omega.{arith}
 use borrow.Author.Needs.{needs}
-use Rattle.laws.specs.Bytes.{field}
+use Rattle.laws.specs.Bytes.{leField}
 use Rattle.wire.proofs.Laws.{field-next, below-next, below-fits}
 use Rattle.wire.proofs.fields.number_at.Statement.{statement}
 use Rattle.wire.proofs.fields.number_at.Tie as tie
 
 abbrev Inv-loop : tie.InvT-loop
-Inv-loop bytes k n x₀ left₀ x left = (left ≤ n) × (x ≡ field (k + left) (n - left) bytes) × (x < 256 ^ (n - left))
+Inv-loop bytes k n x₀ left₀ x left = (left ≤ n) × (x ≡ leField (k + left) (n - left) bytes) × (x < 256 ^ (n - left))
 
 abbrev μ-loop : tie.MeasureT-loop
 μ-loop bytes k n x₀ left₀ x left = left

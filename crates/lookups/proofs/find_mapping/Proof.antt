@@ -1,4 +1,4 @@
--- `lookups::lookup` meets its contract. Assumes nothing.
+-- `lookups::find_mapping` meets its contract. Assumes nothing.
 use native.Mathlib.Omega.{arith}
 use borrow.Author.Needs.{needs}
 use Prim.Native.Nat.{_≤_, _-_}
@@ -7,14 +7,14 @@ use mathlib.Core.Option.{some, none}
 use lib.ListN.{getD, take, drop}
 use Rattle.laws.specs.Lists.{find}
 use Rattle.rules.specs.Table.{records}
-use Rattle.rules.specs.Access.{permits, lookup}
+use Rattle.rules.specs.Access.{permits, findMapping}
 use Rattle.lookups.specs.declared.Found.the-variants.{At}
 use Rattle.table.specs.Records.{noMapping}
 use Rattle.lookups.specs.Outcomes.{foundOf}
 use Rattle.table.proofs.Laws.{gone}
 use Rattle.lookups.proofs.Passing.{find-yes, find-no}
-use Rattle.lookups.proofs.lookup.Statement.{statement}
-use Rattle.lookups.proofs.lookup.Tie as tie
+use Rattle.lookups.proofs.find_mapping.Statement.{statement}
+use Rattle.lookups.proofs.find_mapping.Tie as tie
 
 abbrev Inv-loop : tie.InvT-loop
 Inv-loop t live key address kind n i₀ i =
@@ -24,7 +24,7 @@ abbrev μ-loop : tie.MeasureT-loop
 μ-loop t live key address kind n i₀ i = n - i
 
 returns : tie.Need-returns Inv-loop μ-loop
-unfolding lookup foundOf
+unfolding findMapping foundOf
 returns c =
     let s = c .before .before .before .before in
     let a = s .before .before .before .args in
@@ -42,7 +42,7 @@ loop-again c =
     (omega arith, s .loop .inv .1 ∙ find-no (permits (a .key) (a .address) (a .kind)) noMapping (records (a .t .now)) (a .live) (s .loop .i) (omega arith) (e ∙ c .if1 .left))
 
 returns-2 : tie.Need-returns-2 Inv-loop μ-loop
-unfolding lookup foundOf
+unfolding findMapping foundOf
 returns-2 c =
     let s = c .before in
     let a = s .before .before .before .args in
@@ -50,8 +50,8 @@ returns-2 c =
     let f : find (permits (a .key) (a .address) (a .kind)) (take (a .live) R) ≡ none = s .loop .inv .1 ∙ rw (gone R (a .live) (s .loop .i) (omega arith)) in
     sym (ap foundOf f)
 
-pub lookup-spec : {M : Type 1} → statement M
-lookup-spec =
+pub find-mapping-spec : {M : Type 1} → statement M
+find-mapping-spec =
     tie.close
     (tie.spec
     Inv-loop

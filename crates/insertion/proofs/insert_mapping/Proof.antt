@@ -1,4 +1,4 @@
--- `insertion::insert` meets its contract. Assumes nothing.
+-- `insertion::insert_mapping` meets its contract. Assumes nothing.
 use native.Mathlib.Omega.{arith}
 use borrow.Author.Needs.{needs}
 use mathlib.Core.Path.{_≡_, sym, ap, _∙_}
@@ -6,19 +6,19 @@ use mathlib.Core.Bool.{false}
 use lib.Dec.{ltb}
 use lib.ListN.{length, take}
 use borrow.Author.Tests.{le-ltb}
-use Rattle.rules.specs.Table.{records, insert}
+use Rattle.rules.specs.Table.{records, insertMapping}
 use Rattle.insertion.specs.Inserted.{insertAt, insertedWords}
 use Rattle.rules.proofs.Words.{length-records}
 use Rattle.insertion.proofs.Inserted.{insert-place, inserted-words}
-use Rattle.insertion.proofs.insert.Statement.{statement}
-use Rattle.insertion.proofs.insert.Tie as tie
+use Rattle.insertion.proofs.insert_mapping.Statement.{statement}
+use Rattle.insertion.proofs.insert_mapping.Tie as tie
 
 returns : tie.Need-returns
 returns c =
     let s = c .before .before in
     let a = s .before .before .before .before .before .before .args in
     let L = take (a .live) (records (a .t .now)) in
-    let p : insertAt (s .before .before .place .result) (a .r) L ≡ insert (a .r) L = ap (λ n. insertAt n (a .r) L) (s .before .before .place .ensures .0) ∙ insert-place (a .r) L in
+    let p : insertAt (s .before .before .place .result) (a .r) L ≡ insertMapping (a .r) L = ap (λ n. insertAt n (a .r) L) (s .before .before .place .ensures .0) ∙ insert-place (a .r) L in
     s .shift-in .ensures ∙ rw p (sym (inserted-words (a .live) (a .r) (a .t .now) (omega (arith, length-records (a .t .now)))))
 
 returns-2 : tie.Need-returns-2
@@ -28,8 +28,8 @@ returns-2 c =
     let e : ltb (a .live) (length (records (a .t .now))) ≡ false = le-ltb (a .live) (length (records (a .t .now))) (omega (arith, length-records (a .t .now))) in
     rw e
 
-pub insert-spec : {M : Type 1} → statement M
-insert-spec =
+pub insert-mapping-spec : {M : Type 1} → statement M
+insert-mapping-spec =
     tie.close
     (tie.spec
     (λ c κs. omega (arith, length-records (c .before .before .before .args .t .now)))
