@@ -27,7 +27,7 @@ use Rattle.rules.proofs.Answer as answer
 use Rattle.rules.specs.Sizes.{maxFaults, domainSpan}
 use Rattle.rules.specs.State.{faultAt}
 use Rattle.rules.specs.Access.{permits, findMapping, faultOf, faultBytes, bytesOf}
-use Rattle.rules.proofs.Access.{permits-covers}
+use Rattle.rules.proofs.Accesses.{permits-covers}
 use Rattle.lookups.specs.declared.Found.{Found}
 use Rattle.lookups.specs.declared.Found.the-variants.{At, Nothing}
 use Rattle.lookups.specs.Outcomes.{foundOf}

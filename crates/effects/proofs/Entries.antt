@@ -33,7 +33,7 @@ use Rattle.rules.specs.Sound.{guest, sound}
 use Rattle.rules.specs.Device.{request, access-by, reset-of, fetch-for, Reply, refused, step}
 use Rattle.rules.proofs.Parts.{outside-high, record-form, recordOk}
 use Rattle.rules.proofs.Worlds.{Whole}
-use Rattle.rules.proofs.Access.{permits-covers}
+use Rattle.rules.proofs.Accesses.{permits-covers}
 use Rattle.rules.proofs.Reading.{tests, sound-good, sound-whole}
 use Rattle.rules.proofs.Soundness.{all-guests}
 use Rattle.state.specs.Pieces.{Shaped}

@@ -12,23 +12,24 @@ use Rattle.laws.specs.Lists.{keep}
 use Rattle.laws.specs.Runs.{after, given, every}
 use Rattle.laws.proofs.Runs.{view-after, given-alone, kept-after}
 use Rattle.rules.specs.declared.Guest.{Guest}
-use Rattle.rules.specs.declared.Endpoint.{Endpoint}
-use Rattle.rules.specs.declared.Answer.the-variants.{Done, NoSuchGuest}
+use Rattle.rules.specs.declared.Access.{Access}
+use Rattle.rules.specs.declared.Answer.the-variants.{Done}
+use Rattle.rules.specs.declared.Refusal.the-variants.{NoSuchGuest}
 use Rattle.rules.specs.Answers.{number}
 use Rattle.rules.specs.Configuration.{Config, good}
 use Rattle.rules.specs.State.{World, Device, read, write, start}
 use Rattle.rules.specs.Guests.{own, part}
 use Rattle.rules.specs.Access.{access}
 use Rattle.rules.specs.Sound.{sound}
-use Rattle.rules.specs.Device.{Call, access-by, Reply, refused, rule, caller, owns, is, numbered, work, step, setUp}
-use Rattle.rules.specs.History.{mappedOver}
+use Rattle.rules.specs.Device.{Call, access-by, Reply, refusedWith, rule, caller, owns, is, numbered, work, step, setUp}
+use Rattle.rules.specs.History.{noTally}
 use Rattle.rules.specs.Claims.{holds, Apart, GuestsApart, WithinWindow, AccessesStayInside, HeldIsHistory, SetUpIsSound, CallsKeepSound, NeverUnsound, OnlyWhenPermitted, WheneverPermitted}
-use Rattle.rules.proofs.Worlds.{good-facts, Whole, caller-below, workedWorld, stepWorld, step-keeps, step-other, step-mine}
+use Rattle.rules.proofs.Worlds.{good-facts, Whole, caller-below, performedWorld, stepWorld, step-keeps, step-other, step-mine}
 use Rattle.rules.proofs.Writing.{read-write}
 use Rattle.rules.proofs.Soundness.{write-sound}
 use Rattle.rules.proofs.Steps.{step-sound, step-write, after-write, given-write, set-up-write, set-up-whole}
 use Rattle.rules.proofs.History.{held-over}
-use Rattle.rules.proofs.Access.{access-lands, only-when, whenever}
+use Rattle.rules.proofs.Accesses.{access-lands, only-when, whenever}
 use Rattle.rules.proofs.Share.{rule-number}
 
 keep-keep : {A : Type 0} (q : A → Bool) (l : List A) → keep q (keep q l) ≡ keep q l
@@ -111,51 +112,51 @@ after-set-up c table done xs =
 pub never-unsound : NeverUnsound
 never-unsound c table done xs x n =
     let v = after-set-up c table done xs in
-    eqb-false _ 2 (ap (λ (a : Reply). eqb (number (a .answer)) 2) (ap (λ (d : Device). step d x .0) (v .1) ∙ ap (λ (r : Reply × Device). r .0) (step-write c (v .0) x (v .2))) ∙ answered (v .0)) n
+    eqb-false _ 2 (ap (λ (y : Reply). eqb (number (y .answer)) 2) (ap (λ (d : Device). step d x .0) (v .1) ∙ ap (λ (r : Reply × Device). r .0) (step-write c (v .0) x (v .2))) ∙ answered (v .0)) n
   where
     answered : (w : World) → eqb (number (stepWorld c w x .0 .answer)) 2 ≡ false
     answered w = unfold stepWorld in go (not (numbered c x)) (caller c x)
       where
-        go : (t : Bool) (m : Option Guest) → eqb (number (cond t (refused NoSuchGuest x, w) (workedWorld c w m x) .0 .answer)) 2 ≡ false
+        go : (t : Bool) (m : Option Guest) → eqb (number (cond t (refusedWith NoSuchGuest x, w) (performedWorld c w m x) .0 .answer)) 2 ≡ false
         go true m = refl
-        go false none = unfold workedWorld in refl
-        go false (some g) = unfold workedWorld work in rule-number (own c g) (part c g w) x
+        go false none = unfold performedWorld in refl
+        go false (some g) = unfold performedWorld work in rule-number (own c g) (part c g w) x
 
 -- 2.
-rule-lands : (c : Config) (g : Guest) (w : World) (e : Endpoint) (x k : ℕ) → Whole c w → g .0 < c .settings .guests → WithinWindow c g (rule (own c g) (part c g w) (access-by e x k) .0)
+rule-lands : (c : Config) (g : Guest) (w : World) (a : Access) → Whole c w → g .0 < c .settings .guests → WithinWindow c g (rule (own c g) (part c g w) (access-by a) .0)
 unfolding rule own
-rule-lands c g w e x k h l = access-lands (own c g) (part c g w) e x k (h .parts g l)
+rule-lands c g w a h l = access-lands (own c g) (part c g w) a (h .parts g l)
 
-world-lands : (c : Config) (w : World) (e : Endpoint) (x k : ℕ) (g : Guest) → Whole c w → caller c (access-by e x k) ≡ some g → WithinWindow c g (step (write c w) (access-by e x k) .0)
-world-lands c w e x k g h own-call =
-    subst (λ (a : Reply). WithinWindow c g a)
-    (sym (ap (λ (r : Reply × Device). r .0) (step-write c w (access-by e x k) h) ∙ step-mine c w (access-by e x k) g h l owned .0))
-    (rule-lands c g w e x k h l)
+world-lands : (c : Config) (w : World) (a : Access) (g : Guest) → Whole c w → caller c (access-by a) ≡ some g → WithinWindow c g (step (write c w) (access-by a) .0)
+world-lands c w a g h own-call =
+    subst (λ (y : Reply). WithinWindow c g y)
+    (sym (ap (λ (r : Reply × Device). r .0) (step-write c w (access-by a) h) ∙ step-mine c w (access-by a) g h l owned .0))
+    (rule-lands c g w a h l)
   where
     l : g .0 < c .settings .guests
-    l = caller-below c (access-by e x k) g (good-facts c (h .config)) refl own-call
+    l = caller-below c (access-by a) g (good-facts c (h .config)) refl own-call
 
-    owned : owns c g (access-by e x k) ≡ true
+    owned : owns c g (access-by a) ≡ true
     owned = unfold owns in rw own-call (eq-eqb (g .0) (g .0) refl)
 
 pub accesses-stay-inside : AccessesStayInside
-accesses-stay-inside c table done xs e x k g own-call =
+accesses-stay-inside c table done xs a g own-call =
     let v = after-set-up c table done xs in
-    subst (λ (d : Device). WithinWindow c g (step d (access-by e x k) .0)) (sym (v .1)) (world-lands c (v .0) e x k g (v .2) own-call)
+    subst (λ (d : Device). WithinWindow c g (step d (access-by a) .0)) (sym (v .1)) (world-lands c (v .0) a g (v .2) own-call)
 
 -- 3.
 pub held-is-history : HeldIsHistory
 held-is-history c table done g l xs =
     let h = set-up-whole c table done in
     rw (set-up-write c table done, after-write c xs (start c) h, read-write c (after (stepWorld c) (start c) xs) (kept-after (stepWorld c) (Whole c) (step-keeps c) xs (start c) h))
-    (held-over c g xs (start c) h l ∙ none-held)
+    (held-over c g xs (start c) noTally h l none-held)
   where
-    none-held : length (part c g (start c) .records) + mappedOver c g (write c (start c)) xs ≡ mappedOver c g (write c (start c)) xs
-    none-held = unfold part start in omega arith
+    none-held : length (part c g (start c) .records) + 0 ≡ 0
+    none-held = unfold part start in refl
 
 -- 5.
 pub only-when-permitted : OnlyWhenPermitted
-only-when-permitted d s e x k to g own-call goes = only-when d s e x k g own-call to goes
+only-when-permitted d s a to g own-call goes = only-when d s a g own-call to goes
 
 pub whenever-permitted : WheneverPermitted
-whenever-permitted d s e x k g own-call domain a i r p = whenever d s e x k g own-call domain a i r p
+whenever-permitted d s a g own-call domain there i r p = whenever d s a g own-call domain there i r p

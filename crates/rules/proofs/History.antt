@@ -1,6 +1,6 @@
 -- Records held are those mapped less those taken away.
 use Prim.Native.Nat.{ℕ, _+_, _<_}
-use mathlib.Core.Path.{_≡_, refl, sym, ap, _∙_}
+use mathlib.Core.Path.{_≡_, refl, sym, ap, subst, _∙_}
 use mathlib.Core.Bool.{Bool, true, false, cond, not, _&&_}
 use mathlib.Core.List.{List, [], _∷_}
 use mathlib.Core.Option.{Option, some, none}
@@ -16,18 +16,18 @@ use Rattle.rules.specs.declared.Guest.{Guest}
 use Rattle.rules.specs.declared.Endpoint.{Endpoint}
 use Rattle.rules.specs.declared.Domain.{Domain}
 use Rattle.rules.specs.declared.Mapping.{Mapping}
-use Rattle.rules.specs.declared.Answer.{Answer}
-use Rattle.rules.specs.Answers.{usedLength}
+use Rattle.rules.specs.declared.Access.{Access}
+use Rattle.rules.specs.declared.Refusal.{Refusal}
 use Rattle.rules.specs.Configuration.{Config}
 use Rattle.rules.specs.Table.{keyOf, insertMapping}
 use Rattle.rules.specs.State.{Attachment, World, Device, read, write}
 use Rattle.rules.specs.Guests.{Own, Part, own, part, withRecords}
 use Rattle.rules.specs.Requests.{OK, ATTACH, DETACH, MAP, requestRefusals, typeOf, domainField, endpointField, attachReserved, virtStart, virtEnd, unmapReserved}
 use Rattle.rules.specs.Handlers.{settle, isIn, attachmentOf, without, leave, enter, moveFrom, attached, attachSteps, handleAttach, detachSteps, handleDetach, formSteps, mapSteps, handleMap, inside, unmapSteps, handleUnmap, askedFor, handle}
-use Rattle.rules.specs.Access.{findMapping, blocked, translated, decided, access, reset}
+use Rattle.rules.specs.Access.{findMapping, blocked, translated, decided, access, afterReset}
 use Rattle.rules.specs.Sound.{passes}
-use Rattle.rules.specs.Device.{Call, request, access-by, reset-of, fetch-for, requested, rule, owns, step}
-use Rattle.rules.specs.History.{goneWithDomain, goneByMove, goneByRequest, gone, takenAway, mapped, takenOver, mappedOver}
+use Rattle.rules.specs.Device.{Job, request, reset, fetch, Call, of-guest, access-by, Reply, requested, jobRule, rule, owns, step}
+use Rattle.rules.specs.History.{goneWithDomain, goneByMove, goneByRequest, goneByJob, gone, takenAway, mappedByJob, mapped, Tally, counted, history}
 use Rattle.rules.proofs.Records.{length-insert}
 use Rattle.rules.proofs.Worlds.{Whole, stepWorld, step-keeps, step-other, step-mine}
 use Rattle.rules.proofs.Writing.{read-write}
@@ -98,17 +98,17 @@ module _ (o : Own) (p : Part) where
       go false true = detach-left e d (attachReserved q)
       go false false = unmap-left d (virtStart q) (virtEnd q) (unmapReserved q)
 
-  access-left : (e : Endpoint) (x k : ℕ) → access o p e x k .1 .records ≡ p .records
+  access-left : (x : Access) → access o p x .1 .records ≡ p .records
   unfolding access
-  access-left e x k = go (attachmentOf e (o .endpoints) (p .attachments))
+  access-left x = go (attachmentOf (x .endpoint) (o .endpoints) (p .attachments))
     where
-      hit : (m : Option Mapping) → translated e x k p m .1 .records ≡ p .records
+      hit : (m : Option Mapping) → translated x p m .1 .records ≡ p .records
       hit none = unfold translated blocked in refl
       hit (some r) = unfold translated in refl
 
-      go : (a : Attachment) → decided o p e x k a .1 .records ≡ p .records
+      go : (a : Attachment) → decided o p x a .1 .records ≡ p .records
       go none = unfold decided blocked in refl
-      go (some d) = unfold decided in hit (findMapping (keyOf (o .guest) d) x k (p .records))
+      go (some d) = unfold decided in hit (findMapping (keyOf (o .guest) d) x (p .records))
 
   -- ONE CALL
 
@@ -127,62 +127,72 @@ module _ (o : Own) (p : Part) where
       go (some s) e = unfold settle in (rw (no-map-status d r s e) (omega arith))
 
   -- a MAP takes no record away
-  map-stays : (g : Guest) (q w : List ℕ) → firstFailing (requestRefusals q (length w)) ≡ none → typeOf q ≡ MAP → (r : Mapping) → gone o p (request g q w) r ≡ false
-  unfolding gone goneByRequest
+  map-stays : (g : Guest) (q w : List ℕ) → firstFailing (requestRefusals q (length w)) ≡ none → typeOf q ≡ MAP → (r : Mapping) → gone o p (of-guest g (request q w)) r ≡ false
+  unfolding gone goneByJob goneByRequest
   map-stays g q w e three r = rw (e, three)
 
-  mapped-balance : (g : Guest) (q w : List ℕ) → firstFailing (requestRefusals q (length w)) ≡ none → typeOf q ≡ MAP → keep (gone o p (request g q w)) (p .records) ≡ []
-      → length (rule o p (request g q w) .1 .records) + takenAway o p (request g q w) ≡ length (p .records) + cond (mapped (request g q w) (rule o p (request g q w) .0)) 1 0
-  unfolding rule takenAway mapped requested handle
+  mapped-balance : (g : Guest) (q w : List ℕ) → firstFailing (requestRefusals q (length w)) ≡ none → typeOf q ≡ MAP → keep (gone o p (of-guest g (request q w))) (p .records) ≡ []
+      → length (rule o p (of-guest g (request q w)) .1 .records) + takenAway o p (of-guest g (request q w)) ≡ length (p .records) + cond (mapped (of-guest g (request q w)) (rule o p (of-guest g (request q w)) .0)) 1 0
+  unfolding rule jobRule takenAway mapped mappedByJob requested handle
   mapped-balance g q w e three k = rw (k, e, three) (omega (arith, map-balance (domainField q) (askedFor o q)))
 
   worked-balance : (g : Guest) (q w : List ℕ) → firstFailing (requestRefusals q (length w)) ≡ none → (t : Bool) → eqb (typeOf q) MAP ≡ t
-      → length (rule o p (request g q w) .1 .records) + takenAway o p (request g q w) ≡ length (p .records) + cond (mapped (request g q w) (rule o p (request g q w) .0)) 1 0
+      → length (rule o p (of-guest g (request q w)) .1 .records) + takenAway o p (of-guest g (request q w)) ≡ length (p .records) + cond (mapped (of-guest g (request q w)) (rule o p (of-guest g (request q w)) .0)) 1 0
   worked-balance g q w e true t =
       let three = eqb-true (typeOf q) MAP t in
-      mapped-balance g q w e three (keep-same (gone o p (request g q w)) (λ r. false) (p .records) (map-stays g q w e three) ∙ none-kept (p .records))
+      mapped-balance g q w e three (keep-same (gone o p (of-guest g (request q w))) (λ r. false) (p .records) (map-stays g q w e three) ∙ none-kept (p .records))
   worked-balance g q w e false t =
-      plain (request g q w) (unfold rule gone requested in (rw e (handle-left q t)))
-      (unfold mapped in (rw t))
+      plain (of-guest g (request q w)) (unfold rule jobRule gone goneByJob requested in (rw e (handle-left q t)))
+      (unfold mapped mappedByJob in (rw t))
 
-  refused-balance : (g : Guest) (q w : List ℕ) (a : Answer) → firstFailing (requestRefusals q (length w)) ≡ some a
-      → length (rule o p (request g q w) .1 .records) + takenAway o p (request g q w) ≡ length (p .records) + cond (mapped (request g q w) (rule o p (request g q w) .0)) 1 0
+  refused-balance : (g : Guest) (q w : List ℕ) (a : Refusal) → firstFailing (requestRefusals q (length w)) ≡ some a
+      → length (rule o p (of-guest g (request q w)) .1 .records) + takenAway o p (of-guest g (request q w)) ≡ length (p .records) + cond (mapped (of-guest g (request q w)) (rule o p (of-guest g (request q w)) .0)) 1 0
   refused-balance g q w a e =
-      plain (request g q w) (unfold rule gone requested in (rw e (sym (all-kept (p .records)))))
-      (unfold rule mapped requested in (rw (e, eqb-true (usedLength a) 0 (failing-among (λ b. eqb (usedLength b) 0) (requestRefusals q (length w)) a e refl)) (both-false (eqb (typeOf q) MAP))))
+      plain (of-guest g (request q w)) (unfold rule jobRule gone goneByJob requested in (rw e (sym (all-kept (p .records)))))
+      (unfold rule jobRule mapped mappedByJob requested in (rw e (both-false (eqb (typeOf q) MAP))))
     where
       both-false : (t : Bool) → (t && false) ≡ false
       both-false true = refl
       both-false false = refl
 
-  request-balance : (g : Guest) (q w : List ℕ) (m : Option Answer) → firstFailing (requestRefusals q (length w)) ≡ m
-      → length (rule o p (request g q w) .1 .records) + takenAway o p (request g q w) ≡ length (p .records) + cond (mapped (request g q w) (rule o p (request g q w) .0)) 1 0
+  request-balance : (g : Guest) (q w : List ℕ) (m : Option Refusal) → firstFailing (requestRefusals q (length w)) ≡ m
+      → length (rule o p (of-guest g (request q w)) .1 .records) + takenAway o p (of-guest g (request q w)) ≡ length (p .records) + cond (mapped (of-guest g (request q w)) (rule o p (of-guest g (request q w)) .0)) 1 0
   request-balance g q w none e = worked-balance g q w e (eqb (typeOf q) MAP) refl
   request-balance g q w (some a) e = refused-balance g q w a e
 
   -- records after, with those taken away, are records before, with the one mapped
   pub balance : (x : Call) → length (rule o p x .1 .records) + takenAway o p x ≡ length (p .records) + cond (mapped x (rule o p x .0)) 1 0
-  balance (request g q w) = request-balance g q w (firstFailing (requestRefusals q (length w))) refl
-  balance (access-by e x k) = plain (access-by e x k) (unfold rule gone in (access-left e x k ∙ sym (all-kept (p .records)))) (unfold mapped in refl)
-  balance (reset-of g) = plain (reset-of g) (unfold rule gone reset in sym (none-kept (p .records))) (unfold mapped in refl)
-  balance (fetch-for g b) = plain (fetch-for g b) (unfold rule gone in sym (all-kept (p .records))) (unfold mapped in refl)
+  balance (of-guest g (request q w)) = request-balance g q w (firstFailing (requestRefusals q (length w))) refl
+  balance (of-guest g reset) = plain (of-guest g reset) (unfold rule jobRule gone goneByJob afterReset in sym (none-kept (p .records))) (unfold mapped mappedByJob in refl)
+  balance (of-guest g (fetch b)) = plain (of-guest g (fetch b)) (unfold rule jobRule gone goneByJob in sym (all-kept (p .records))) (unfold mapped mappedByJob in refl)
+  balance (access-by x) = plain (access-by x) (unfold rule gone in (access-left x ∙ sym (all-kept (p .records)))) (unfold mapped in refl)
 
 -- OVER A HISTORY
 
-pub held-over : (c : Config) (g : Guest) (xs : List Call) (w : World) → Whole c w → g .0 < c .settings .guests
-    → length (part c g (after (stepWorld c) w xs) .records) + takenOver c g (write c w) xs ≡ length (part c g w .records) + mappedOver c g (write c w) xs
-held-over c g [] w h l = refl
-held-over c g (x ∷ xs) w h l = rw (step-write c w x h, read-write c w h) (go (owns c g x) refl (held-over c g xs (stepWorld c w x .1) (step-keeps c w x h) l))
+-- where records held and taken away are those mapped, so they are after any calls
+pub held-over : (c : Config) (g : Guest) (xs : List Call) (w : World) (t : Tally) → Whole c w → g .0 < c .settings .guests → length (part c g w .records) + t .taken ≡ t .mapped
+    → length (part c g (after (stepWorld c) w xs) .records) + history c g (write c w) xs t .taken ≡ history c g (write c w) xs t .mapped
+held-over c g [] w t h l i = i
+held-over c g (x ∷ xs) w t h l i =
+    subst (λ (z : Tally). length (part c g (after (stepWorld c) w (x ∷ xs)) .records) + z .taken ≡ z .mapped) (sym one-more)
+    (held-over c g xs v next (step-keeps c w x h) l (go (owns c g x) refl))
   where
     v : World
     v = stepWorld c w x .1
 
-    go : (b : Bool) → owns c g x ≡ b → length (part c g (after (stepWorld c) v xs) .records) + takenOver c g (write c v) xs ≡ length (part c g v .records) + mappedOver c g (write c v) xs
-        → length (part c g (after (stepWorld c) v xs) .records) + (cond b (takenAway (own c g) (part c g w) x) 0 + takenOver c g (write c v) xs)
-        ≡ length (part c g w .records) + (cond (b && mapped x (stepWorld c w x .0)) 1 0 + mappedOver c g (write c v) xs)
-    go true e i =
+    next : Tally
+    next = cond (owns c g x) (counted (own c g) (part c g w) x (stepWorld c w x .0) t) t
+
+    one-more : history c g (write c w) (x ∷ xs) t ≡ history c g (write c v) xs next
+    one-more =
+        ap (λ (r : Reply × Device). history c g (r .1) xs (cond (owns c g x) (counted (own c g) (part c g (read (write c w))) x (r .0) t) t)) (step-write c w x h)
+        ∙ ap (λ (u : World). history c g (write c v) xs (cond (owns c g x) (counted (own c g) (part c g u) x (stepWorld c w x .0) t) t)) (read-write c w h)
+
+    go : (b : Bool) → owns c g x ≡ b
+        → length (part c g v .records) + cond b (counted (own c g) (part c g w) x (stepWorld c w x .0) t) t .taken ≡ cond b (counted (own c g) (part c g w) x (stepWorld c w x .0) t) t .mapped
+    go true e =
         let k : length (part c g v .records) ≡ length (rule (own c g) (part c g w) x .1 .records) = ap (λ (p : Part). length (p .records)) (step-mine c w x g h l e .1) in
         rw (step-mine c w x g h l e .0) (omega (arith, i, k, balance (own c g) (part c g w) x))
-    go false e i =
+    go false e =
         let k : length (part c g v .records) ≡ length (part c g w .records) = ap (λ (p : Part). length (p .records)) (step-other c w x g h e) in
         omega (arith, i, k)

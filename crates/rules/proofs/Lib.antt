@@ -11,6 +11,6 @@ pub mod Soundness
 pub mod Reading
 pub mod Steps
 pub mod History
-pub mod Access
+pub mod Accesses
 pub mod Share
 pub mod Claims

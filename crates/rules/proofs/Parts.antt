@@ -16,17 +16,19 @@ use Rattle.rules.specs.declared.Endpoint.{Endpoint}
 use Rattle.rules.specs.declared.Domain.{Domain}
 use Rattle.rules.specs.declared.Mapping.{Mapping}
 use Rattle.rules.specs.declared.Fault.{Fault}
-use Rattle.rules.specs.declared.Answer.{Answer}
-use Rattle.rules.specs.declared.Answer.the-variants.{Unattached, Unmapped}
+use Rattle.rules.specs.declared.Access.{Access}
+use Rattle.rules.specs.declared.Refusal.{Refusal}
+use Rattle.rules.specs.declared.Cause.{Cause}
+use Rattle.rules.specs.declared.Cause.the-variants.{Unattached, Unmapped}
 use Rattle.rules.specs.Sizes.{domainSpan, maxFaults, maxLost}
 use Rattle.rules.specs.Table.{keyOf, guestOf, domainOf, before, overlap, insertMapping}
 use Rattle.rules.specs.State.{Attachment, Log}
 use Rattle.rules.specs.Guests.{Own, Part, withRecords, withLog}
 use Rattle.rules.specs.Requests.{requestRefusals, typeOf, ATTACH, DETACH, MAP, domainField, endpointField, attachReserved, virtStart, virtEnd, unmapReserved}
 use Rattle.rules.specs.Handlers.{Steps, settle, outside, isIn, exists, listed, attachmentOf, attachedAs, ofKey, without, leave, enter, moveFrom, attached, attachSteps, handleAttach, detachSteps, handleDetach, formSteps, recordSteps, mapSteps, handleMap, unmapSteps, handleUnmap, askedFor, handle}
-use Rattle.rules.specs.Access.{logged, faultOf, blocked, translated, findMapping, decided, access, reset, fetchable, fetchedFrom}
+use Rattle.rules.specs.Access.{logged, reasonOf, faultOf, blocked, translated, findMapping, decided, access, afterReset, fetchable, fetchedFrom}
 use Rattle.rules.specs.Sound.{passes, faultGood}
-use Rattle.rules.specs.Device.{Call, request, access-by, reset-of, fetch-for, requested, rule}
+use Rattle.rules.specs.Device.{Job, request, reset, fetch, Call, of-guest, access-by, requested, jobRule, rule}
 use Rattle.rules.proofs.Records.{key-guest, key-domain, key-back, wide, apart, mine, all-insert, length-insert, insert-ordered, insert-apart}
 use Rattle.rules.proofs.Attachments.{length-attachedAs, all-attachedAs, exists-attachedAs, detached, in-one, all-none}
 
@@ -276,28 +278,32 @@ with-log : (o : Own) (p : Part) (l : Log) → logOk o l ≡ true → Facts o p �
 with-log o p l h f =
     record { narrow = f .narrow; size = f .size; attachments = f .attachments; own = f .own; records = f .records; order = f .order; disjoint = f .disjoint; share = f .share; log = h }
 
-blocked-facts : (o : Own) (p : Part) (a : Answer) (why : ℕ) (e : Endpoint) (x k : ℕ) → (eqb why 1 || eqb why 2) ≡ true → listed e (o .endpoints) ≡ true → Facts o p → Facts o (blocked a (faultOf why e x k) p .1)
+blocked-facts : (o : Own) (p : Part) (why : Cause) (a : Access) → listed (a .endpoint) (o .endpoints) ≡ true → Facts o p → Facts o (blocked why a p .1)
 unfolding blocked
-blocked-facts o p a why e x k w h f = with-log o p (logged (faultOf why e x k) (p .log)) (log-logged o (faultOf why e x k) (p .log) (unfold faultGood in (both (eqb why 1 || eqb why 2) _ w (both _ (listed e (o .endpoints)) (go (eqb k 0)) h))) (f .log)) f
+blocked-facts o p why a h f = with-log o p (logged (faultOf why a) (p .log)) (log-logged o (faultOf why a) (p .log) (unfold faultGood in (both _ _ (reason why) (both _ (listed (a .endpoint) (o .endpoints)) (flag (eqb (a .kind) 0)) h))) (f .log)) f
   where
-    go : (b : Bool) → (eqb (cond b 1 2 + 256) 257 || eqb (cond b 1 2 + 256) 258) ≡ true
-    go true = refl
-    go false = refl
+    reason : (c : Cause) → (eqb (reasonOf c) 1 || eqb (reasonOf c) 2) ≡ true
+    reason Unattached = refl
+    reason Unmapped = refl
 
-pub access-facts : (o : Own) (p : Part) (e : Endpoint) (x k : ℕ) → listed e (o .endpoints) ≡ true → Facts o p → Facts o (access o p e x k .1)
+    flag : (b : Bool) → (eqb (cond b 1 2 + 256) 257 || eqb (cond b 1 2 + 256) 258) ≡ true
+    flag true = refl
+    flag false = refl
+
+pub access-facts : (o : Own) (p : Part) (a : Access) → listed (a .endpoint) (o .endpoints) ≡ true → Facts o p → Facts o (access o p a .1)
 unfolding access
-access-facts o p e x k h f = go (attachmentOf e (o .endpoints) (p .attachments))
+access-facts o p a h f = go (attachmentOf (a .endpoint) (o .endpoints) (p .attachments))
   where
-    hit : (m : Option Mapping) → Facts o (translated e x k p m .1)
-    hit none = unfold translated in blocked-facts o p Unmapped 2 e x k refl h f
+    hit : (m : Option Mapping) → Facts o (translated a p m .1)
+    hit none = unfold translated in blocked-facts o p Unmapped a h f
     hit (some r) = unfold translated in f
 
-    go : (a : Attachment) → Facts o (decided o p e x k a .1)
-    go none = unfold decided in blocked-facts o p Unattached 1 e x k refl h f
-    go (some d) = unfold decided in hit (findMapping (keyOf (o .guest) d) x k (p .records))
+    go : (b : Attachment) → Facts o (decided o p a b .1)
+    go none = unfold decided in blocked-facts o p Unattached a h f
+    go (some d) = unfold decided in hit (findMapping (keyOf (o .guest) d) a (p .records))
 
-pub reset-facts : (o : Own) (p : Part) → Facts o p → Facts o (reset p)
-unfolding reset
+pub reset-facts : (o : Own) (p : Part) → Facts o p → Facts o (afterReset p)
+unfolding afterReset
 reset-facts o p f =
     record {
       narrow = f .narrow;
@@ -313,19 +319,21 @@ reset-facts o p f =
 
 -- the endpoint of an access is the guest's
 abbrev pub Named : Own → Call → Type 0
-Named o (request g r w) = Unit {0}
-Named o (access-by e x k) = listed e (o .endpoints) ≡ true
-Named o (reset-of g) = Unit {0}
-Named o (fetch-for g b) = Unit {0}
+Named o (of-guest g j) = Unit {0}
+Named o (access-by a) = listed (a .endpoint) (o .endpoints) ≡ true
+
+job-facts : (o : Own) (p : Part) (j : Job) → Facts o p → Facts o (jobRule o p j .1)
+unfolding jobRule
+job-facts o p (request r w) f = go (firstFailing (requestRefusals r (length w)))
+  where
+    go : (m : Option Refusal) → Facts o (requested o p r w m .1)
+    go none = unfold requested in handle-facts o p r f
+    go (some a) = unfold requested in f
+job-facts o p reset f = reset-facts o p f
+job-facts o p (fetch b) f = with-log o p (fetchedFrom (fetchable (p .log) b) (p .log)) (log-fetched o (fetchable (p .log) b) (p .log) (f .log)) f
 
 -- every call of the guest's own keeps its part sound
 pub rule-facts : (o : Own) (p : Part) (c : Call) → Named o c → Facts o p → Facts o (rule o p c .1)
 unfolding rule
-rule-facts o p (request g r w) _ f = go (firstFailing (requestRefusals r (length w)))
-  where
-    go : (m : Option Answer) → Facts o (requested o p r w m .1)
-    go none = unfold requested in handle-facts o p r f
-    go (some a) = unfold requested in f
-rule-facts o p (access-by e x k) h f = access-facts o p e x k h f
-rule-facts o p (reset-of g) _ f = reset-facts o p f
-rule-facts o p (fetch-for g b) _ f = with-log o p (fetchedFrom (fetchable (p .log) b) (p .log)) (log-fetched o (fetchable (p .log) b) (p .log) (f .log)) f
+rule-facts o p (of-guest g j) _ f = job-facts o p j f
+rule-facts o p (access-by a) h f = access-facts o p a h f

@@ -15,9 +15,9 @@ use Rattle.rules.specs.declared.Guest.{Guest}
 use Rattle.rules.specs.declared.Domain.{Domain}
 use Rattle.rules.specs.declared.Endpoint.{Endpoint}
 use Rattle.rules.specs.declared.Mapping.{Mapping}
-use Rattle.rules.specs.declared.Answer.{Answer}
-use Rattle.rules.specs.declared.Answer.the-variants.{NoSuchGuest}
-use Rattle.rules.specs.Answers.{number, usedLength}
+use Rattle.rules.specs.declared.Refusal.{Refusal}
+use Rattle.rules.specs.declared.Refusal.the-variants.{NoSuchGuest}
+use Rattle.rules.specs.Answers.{refusalNumber, number, usedLength}
 use Rattle.rules.specs.Configuration.{Config, share}
 use Rattle.rules.specs.Table.{keyOf, overlap}
 use Rattle.rules.specs.State.{Attachment, World, Device, configOf, read}
@@ -26,9 +26,9 @@ use Rattle.rules.specs.Requests.{INVAL, NOMEM, ATTACH, DETACH, MAP, requ
 use Rattle.rules.specs.Handlers.{Steps, settle, attached, leave, attachSteps, handleAttach, detachSteps, handleDetach, formSteps, recordSteps, mapSteps, handleMap, inside, without, unmapSteps, handleUnmap, askedFor, handle}
 use Rattle.rules.specs.Access.{translated, blocked, decided, access}
 use Rattle.rules.specs.Sound.{sound, guest}
-use Rattle.rules.specs.Device.{Call, request, access-by, reset-of, fetch-for, Reply, refused, requested, rule, caller, numbered, work, step}
+use Rattle.rules.specs.Device.{Job, request, reset, fetch, Call, of-guest, access-by, Reply, refusedWith, requested, jobRule, rule, caller, numbered, work, step}
 use Rattle.rules.specs.Claims.{NoMemOnlyByShare, RoomWithinShare}
-use Rattle.rules.proofs.Worlds.{Whole, workedWorld, stepWorld}
+use Rattle.rules.proofs.Worlds.{Whole, performedWorld, stepWorld}
 use Rattle.rules.proofs.Shares.{records-sum, shares-sum}
 use Rattle.rules.proofs.Reading.{sound-whole}
 use Rattle.rules.proofs.Steps.{reply-of}
@@ -75,28 +75,28 @@ handle-nomem o p r = go (eqb (typeOf r) ATTACH) (eqb (typeOf r) DETACH) (eqb (ty
     go false false true i = map-nomem o p d (askedFor o r) i
     go false false false i = absurd (never-nomem (unmapSteps o p d (virtStart r) (virtEnd r) (unmapReserved r)) p (withRecords (without (inside (keyOf (o .guest) d) (virtStart r) (virtEnd r)) (p .records)) p) refl (unfold handleUnmap in i))
 
-request-nomem : (o : Own) (p : Part) (r w : List ℕ) (m : Option Answer) → firstFailing (requestRefusals r (length w)) ≡ m → usedLength (requested o p r w m .0 .answer) ≡ 4 → getD (requested o p r w m .0 .buffer) 0 0 ≡ NOMEM → o .share ≤ length (p .records)
+request-nomem : (o : Own) (p : Part) (r w : List ℕ) (m : Option Refusal) → firstFailing (requestRefusals r (length w)) ≡ m → usedLength (requested o p r w m .0 .answer) ≡ 4 → getD (requested o p r w m .0 .buffer) 0 0 ≡ NOMEM → o .share ≤ length (p .records)
 unfolding requested
 request-nomem o p r w none f u s = handle-nomem o p r s
-request-nomem o p r w (some a) f u s = absurd (omega (arith, u, eqb-true (usedLength a) 0 (failing-among (λ b. eqb (usedLength b) 0) (requestRefusals r (length w)) a f refl)))
+request-nomem o p r w (some a) f u s = absurd (omega (arith, u))
 
-rule-nomem : (c : Config) (g : Guest) (w : World) (r b : List ℕ) → usedLength (rule (own c g) (part c g w) (request g r b) .0 .answer) ≡ 4 → getD (rule (own c g) (part c g w) (request g r b) .0 .buffer) 0 0 ≡ NOMEM → share (c .settings) (g .0) ≤ length (part c g w .records)
-unfolding rule own
+rule-nomem : (c : Config) (g : Guest) (w : World) (r b : List ℕ) → usedLength (rule (own c g) (part c g w) (of-guest g (request r b)) .0 .answer) ≡ 4 → getD (rule (own c g) (part c g w) (of-guest g (request r b)) .0 .buffer) 0 0 ≡ NOMEM → share (c .settings) (g .0) ≤ length (part c g w .records)
+unfolding rule jobRule own
 rule-nomem c g w r b u s = request-nomem (own c g) (part c g w) r b (firstFailing (requestRefusals r (length b))) refl u s
 
-step-nomem : (c : Config) (g : Guest) (w : World) (r b : List ℕ) → usedLength (stepWorld c w (request g r b) .0 .answer) ≡ 4 → getD (stepWorld c w (request g r b) .0 .buffer) 0 0 ≡ NOMEM → share (c .settings) (g .0) ≤ length (part c g w .records)
-unfolding stepWorld workedWorld caller work
-step-nomem c g w r b = go (not (numbered c (request g r b)))
+step-nomem : (c : Config) (g : Guest) (w : World) (r b : List ℕ) → usedLength (stepWorld c w (of-guest g (request r b)) .0 .answer) ≡ 4 → getD (stepWorld c w (of-guest g (request r b)) .0 .buffer) 0 0 ≡ NOMEM → share (c .settings) (g .0) ≤ length (part c g w .records)
+unfolding stepWorld performedWorld caller work
+step-nomem c g w r b = go (not (numbered c (of-guest g (request r b))))
   where
     go : (t : Bool)
-        → usedLength (cond t (refused NoSuchGuest (request g r b), w) (work c g w (request g r b)) .0 .answer) ≡ 4
-        → getD (cond t (refused NoSuchGuest (request g r b), w) (work c g w (request g r b)) .0 .buffer) 0 0 ≡ NOMEM → share (c .settings) (g .0) ≤ length (part c g w .records)
+        → usedLength (cond t (refusedWith NoSuchGuest (of-guest g (request r b)), w) (work c g w (of-guest g (request r b))) .0 .answer) ≡ 4
+        → getD (cond t (refusedWith NoSuchGuest (of-guest g (request r b)), w) (work c g w (of-guest g (request r b))) .0 .buffer) 0 0 ≡ NOMEM → share (c .settings) (g .0) ≤ length (part c g w .records)
     go true u s = absurd (omega (arith, u))
     go false u s = rule-nomem c g w r b u s
 
 pub no-mem-only-by-share : NoMemOnlyByShare
 no-mem-only-by-share d s g r w u b =
-    let e = reply-of d (request g r w) s in
+    let e = reply-of d (of-guest g (request r w)) s in
     step-nomem (configOf (d .state)) g (read d) r w (ap (λ (y : Reply). usedLength (y .answer)) (sym e) ∙ u) (ap (λ (y : Reply). getD (y .buffer) 0 0) (sym e) ∙ b)
 
 -- ROOM
@@ -125,21 +125,25 @@ room-within-share d s g l h =
 -- NUMBERS
 
 -- no rule answers 2
+job-number : (o : Own) (p : Part) (j : Job) → eqb (number (jobRule o p j .0 .answer)) 2 ≡ false
+unfolding jobRule
+job-number o p (request r w) = go (firstFailing (requestRefusals r (length w))) refl
+  where
+    go : (m : Option Refusal) → firstFailing (requestRefusals r (length w)) ≡ m → eqb (number (requested o p r w m .0 .answer)) 2 ≡ false
+    go none e = unfold requested in refl
+    go (some a) e = unfold requested in not-true (eqb (refusalNumber a) 2) (failing-among (λ b. not (eqb (refusalNumber b) 2)) (requestRefusals r (length w)) a e refl)
+job-number o p reset = refl
+job-number o p (fetch b) = refl
+
 pub rule-number : (o : Own) (p : Part) (x : Call) → eqb (number (rule o p x .0 .answer)) 2 ≡ false
 unfolding rule
-rule-number o p (request g r w) = go (firstFailing (requestRefusals r (length w))) refl
+rule-number o p (of-guest g j) = job-number o p j
+rule-number o p (access-by x) = unfold access in go _
   where
-    go : (m : Option Answer) → firstFailing (requestRefusals r (length w)) ≡ m → eqb (number (requested o p r w m .0 .answer)) 2 ≡ false
-    go none e = unfold requested in refl
-    go (some a) e = unfold requested in not-true (eqb (number a) 2) (failing-among (λ b. not (eqb (number b) 2)) (requestRefusals r (length w)) a e refl)
-rule-number o p (access-by e x k) = unfold access in go _
-  where
-    hit : (m : Option Mapping) → eqb (number (translated e x k p m .0)) 2 ≡ false
+    hit : (m : Option Mapping) → eqb (number (translated x p m .0)) 2 ≡ false
     hit none = unfold translated blocked in refl
     hit (some r) = unfold translated in refl
 
-    go : (a : Attachment) → eqb (number (decided o p e x k a .0)) 2 ≡ false
+    go : (a : Attachment) → eqb (number (decided o p x a .0)) 2 ≡ false
     go none = unfold decided blocked in refl
     go (some d) = unfold decided in hit _
-rule-number o p (reset-of g) = refl
-rule-number o p (fetch-for g b) = refl

@@ -15,7 +15,7 @@ use Rattle.laws.proofs.Filters.{all-imp}
 use Rattle.laws.proofs.Owners.{pick-weave, pick-weave-other, length-weave, length-pickBy}
 use Rattle.rules.specs.declared.Guest.{Guest}
 use Rattle.rules.specs.declared.Endpoint.{Endpoint}
-use Rattle.rules.specs.declared.Answer.the-variants.{NoSuchGuest, UnknownEndpoint}
+use Rattle.rules.specs.declared.Refusal.the-variants.{NoSuchGuest, UnknownEndpoint}
 use Rattle.rules.specs.Sizes.{maxGuests, maxEndpoints, domainSpan}
 use Rattle.rules.specs.Configuration.{Config, settingsTests, listTests, goodSettings, goodLists, good}
 use Rattle.rules.specs.Table.{guestOf, before}
@@ -23,7 +23,7 @@ use Rattle.rules.specs.State.{Attachment, World, noLog, start}
 use Rattle.rules.specs.Guests.{Own, Part, own, part, replace}
 use Rattle.rules.specs.Handlers.{listed}
 use Rattle.rules.specs.Sound.{guest}
-use Rattle.rules.specs.Device.{Call, request, access-by, reset-of, fetch-for, Reply, refused, rule, ownerOf, caller, is, owns, numbered, work}
+use Rattle.rules.specs.Device.{Call, of-guest, access-by, Reply, refusedWith, rule, ownerOf, caller, is, owns, numbered, work}
 use Rattle.rules.proofs.Records.{apart, mine, before-guest, apart-guests, records-back, records-other, all-with, pairwise-with}
 use Rattle.rules.proofs.Parts.{Facts, Named, rule-facts, inRange, logOk}
 
@@ -79,34 +79,28 @@ owner-below e n (k ∷ es) (o ∷ os) g a h = go (eqb k (e .0)) h (λ i. owner-b
 
 pub caller-below : (c : Config) (x : Call) (g : Guest) → Good c → numbered c x ≡ true → caller c x ≡ some g → g .0 < c .settings .guests
 unfolding caller
-caller-below c (request h r w) g i n e = rw (let z : h ≡ g = cc in ap (λ y. y .0) (sym z)) (ltb-true (h .0) (c .settings .guests) n)
-caller-below c (access-by a x k) g i n e = owner-below a (c .settings .guests) (c .endpoints) (c .owners) g (i .owners) e
-caller-below c (reset-of h) g i n e = rw (let z : h ≡ g = cc in ap (λ y. y .0) (sym z)) (ltb-true (h .0) (c .settings .guests) n)
-caller-below c (fetch-for h b) g i n e = rw (let z : h ≡ g = cc in ap (λ y. y .0) (sym z)) (ltb-true (h .0) (c .settings .guests) n)
+caller-below c (of-guest h j) g i n e = rw (let z : h ≡ g = cc in ap (λ y. y .0) (sym z)) (ltb-true (h .0) (c .settings .guests) n)
+caller-below c (access-by a) g i n e = owner-below (a .endpoint) (c .settings .guests) (c .endpoints) (c .owners) g (i .owners) e
 
 pub named : (c : Config) (x : Call) (g : Guest) → caller c x ≡ some g → Named (own c g) x
 unfolding caller own
-named c (request h r w) g e = tt
-named c (access-by a x k) g e = owner-listed a (c .endpoints) (c .owners) g e
-named c (reset-of h) g e = tt
-named c (fetch-for h b) g e = tt
+named c (of-guest h j) g e = tt
+named c (access-by a) g e = owner-listed (a .endpoint) (c .endpoints) (c .owners) g e
 
 -- a call of a guest below the guest count is not refused with 1
 pub owned-numbered : (c : Config) (x : Call) (g : Guest) → g .0 < c .settings .guests → caller c x ≡ some g → numbered c x ≡ true
 unfolding caller
-owned-numbered c (request h r w) g l e = lt-ltb (h .0) (c .settings .guests) (rw (let z : h ≡ g = cc in ap (λ y. y .0) z) l)
-owned-numbered c (access-by a x k) g l e = refl
-owned-numbered c (reset-of h) g l e = lt-ltb (h .0) (c .settings .guests) (rw (let z : h ≡ g = cc in ap (λ y. y .0) z) l)
-owned-numbered c (fetch-for h b) g l e = lt-ltb (h .0) (c .settings .guests) (rw (let z : h ≡ g = cc in ap (λ y. y .0) z) l)
+owned-numbered c (of-guest h j) g l e = lt-ltb (h .0) (c .settings .guests) (rw (let z : h ≡ g = cc in ap (λ y. y .0) z) l)
+owned-numbered c (access-by a) g l e = refl
 
 -- THE DEVICE WITHOUT ITS WORDS
 
-unfoldable pub workedWorld : Config → World → Option Guest → Call → Reply × World
-workedWorld c w none x = (refused UnknownEndpoint x, w)
-workedWorld c w (some g) x = work c g w x
+unfoldable pub performedWorld : Config → World → Option Guest → Call → Reply × World
+performedWorld c w none x = (refusedWith UnknownEndpoint x, w)
+performedWorld c w (some g) x = work c g w x
 
 unfoldable pub stepWorld : Config → World → Call → Reply × World
-stepWorld c w x = cond (not (numbered c x)) (refused NoSuchGuest x, w) (workedWorld c w (caller c x) x)
+stepWorld c w x = cond (not (numbered c x)) (refusedWith NoSuchGuest x, w) (performedWorld c w (caller c x) x)
 
 module _ (c : Config) where
   attachments-back : (g : Guest) (p : Part) (w : World) → length (p .attachments) ≡ length (part c g w .attachments) → part c g (replace c g p w) .attachments ≡ p .attachments
@@ -181,10 +175,10 @@ module _ (c : Config) where
   ruled w x g h l e = rule-facts (own c g) (part c g w) x (named c x g e) (h .parts g l)
 
   pub step-keeps : (w : World) (x : Call) → Whole w → Whole (stepWorld c w x .1)
-  unfolding stepWorld workedWorld work
+  unfolding stepWorld performedWorld work
   step-keeps w x h = either-way (λ (r : Reply × World). Whole (r .1)) (not (numbered c x)) (λ n. h) (λ n. go (caller c x) refl (not-false (numbered c x) n))
     where
-      go : (m : Option Guest) → caller c x ≡ m → numbered c x ≡ true → Whole (workedWorld c w m x .1)
+      go : (m : Option Guest) → caller c x ≡ m → numbered c x ≡ true → Whole (performedWorld c w m x .1)
       go none e n = h
       go (some g) e n =
           let l = caller-below c x g (good-facts c (h .config)) n e in
@@ -192,10 +186,10 @@ module _ (c : Config) where
 
   -- a call of another guest leaves g's part as it is
   pub step-other : (w : World) (x : Call) (g : Guest) → Whole w → owns c g x ≡ false → part c g (stepWorld c w x .1) ≡ part c g w
-  unfolding stepWorld workedWorld work owns
+  unfolding stepWorld performedWorld work owns
   step-other w x g h o = either-way (λ (r : Reply × World). part c g (r .1) ≡ part c g w) (not (numbered c x)) (λ n. refl) (λ n. go (caller c x) refl o (not-false (numbered c x) n))
     where
-      go : (m : Option Guest) → caller c x ≡ m → is g m ≡ false → numbered c x ≡ true → part c g (workedWorld c w m x .1) ≡ part c g w
+      go : (m : Option Guest) → caller c x ≡ m → is g m ≡ false → numbered c x ≡ true → part c g (performedWorld c w m x .1) ≡ part c g w
       go none e i n = refl
       go (some k) e i n =
           let l = caller-below c x k (good-facts c (h .config)) n e in
@@ -204,12 +198,12 @@ module _ (c : Config) where
   -- a call of g's own is g's rule on g's part
   pub step-mine : (w : World) (x : Call) (g : Guest) → Whole w → g .0 < c .settings .guests → owns c g x ≡ true
       → (stepWorld c w x .0 ≡ rule (own c g) (part c g w) x .0) × (part c g (stepWorld c w x .1) ≡ rule (own c g) (part c g w) x .1)
-  unfolding stepWorld workedWorld work owns
+  unfolding stepWorld performedWorld work owns
   step-mine w x g h l o = go (caller c x) refl o
     where
       go : (m : Option Guest) → caller c x ≡ m → is g m ≡ true
-          → (cond (not (numbered c x)) (refused NoSuchGuest x, w) (workedWorld c w m x) .0 ≡ rule (own c g) (part c g w) x .0)
-          × (part c g (cond (not (numbered c x)) (refused NoSuchGuest x, w) (workedWorld c w m x) .1) ≡ rule (own c g) (part c g w) x .1)
+          → (cond (not (numbered c x)) (refusedWith NoSuchGuest x, w) (performedWorld c w m x) .0 ≡ rule (own c g) (part c g w) x .0)
+          × (part c g (cond (not (numbered c x)) (refusedWith NoSuchGuest x, w) (performedWorld c w m x) .1) ≡ rule (own c g) (part c g w) x .1)
       go none e i = true-false false i refl
       go (some k) e i =
           let same = same-guest k g i in

@@ -7,11 +7,13 @@ use lib.Dec.{leb, ltb, eqb}
 use lib.ListN.{length, take, drop, replicate}
 use Rattle.laws.specs.Lists.{find}
 use Rattle.laws.specs.Bytes.{leBytes}
-use Rattle.rules.specs.declared.Endpoint.{Endpoint}
+use Rattle.rules.specs.declared.Access.{Access}
 use Rattle.rules.specs.declared.Mapping.{Mapping}
 use Rattle.rules.specs.declared.Fault.{Fault}
 use Rattle.rules.specs.declared.Answer.{Answer}
-use Rattle.rules.specs.declared.Answer.the-variants.{Through, Unattached, Unmapped}
+use Rattle.rules.specs.declared.Answer.the-variants.{Through, Blocked}
+use Rattle.rules.specs.declared.Cause.{Cause}
+use Rattle.rules.specs.declared.Cause.the-variants.{Unattached, Unmapped}
 use Rattle.rules.specs.Sizes.{maxFaults, maxLost, faultSize}
 use Rattle.rules.specs.Table.{keyOf}
 use Rattle.rules.specs.State.{Attachment, Log, noLog}
@@ -27,8 +29,12 @@ unfoldable pub hasFlag : ℕ → ℕ → Bool
 hasFlag kind flags = eqb (flags / flagFor kind % 2) 1
 
 -- "a record of the owner's and endpoint's domain covers the address and has the matching flag"
-unfoldable pub permits : ℕ → ℕ → ℕ → Mapping → Bool
-permits key address kind r = ofKey key r && ((leb (r .start) address && leb address (r .end)) && hasFlag kind (r .flags))
+unfoldable pub permits : ℕ → Access → Mapping → Bool
+permits key a r = ofKey key r && ((leb (r .start) (a .address) && leb (a .address) (r .end)) && hasFlag (a .kind) (r .flags))
+
+-- the record by which an access of an endpoint in the key's domain goes through
+unfoldable pub findMapping : ℕ → Access → List Mapping → Option Mapping
+findMapping key a l = find (permits key a) l
 
 -- "Log full: the new one is dropped, the lost count rises by one until 65,535."
 unfoldable pub logged : Fault → Log → Log
@@ -37,35 +43,36 @@ logged f l =
     (record { faults = l .faults ++ (f ∷ []); lost = l .lost })
     (record { faults = l .faults; lost = cond (ltb (l .lost) maxLost) (suc (l .lost)) (l .lost) })
 
--- "reason (1 domain, 2 mapping), [..] flags 4 (READ 1 or WRITE 2, plus ADDRESS 256), endpoint 4, [..] address 8"
-abbrev pub faultOf : ℕ → Endpoint → ℕ → ℕ → Fault
-faultOf reason e address kind = record { reason = reason; flags = flagFor kind + 256; endpoint = e; address = address }
+-- "reason (1 domain, 2 mapping)"
+abbrev pub reasonOf : Cause → ℕ
+reasonOf Unattached = 1
+reasonOf Unmapped = 2
 
--- "fault logged"
-unfoldable pub blocked : Answer → Fault → Part → Answer × Part
-blocked a f p = (a, withLog (logged f (p .log)) p)
+-- "reason [..], flags 4 (READ 1 or WRITE 2, plus ADDRESS 256), endpoint 4, [..] address 8"
+abbrev pub faultOf : Cause → Access → Fault
+faultOf cause a = record { reason = reasonOf cause; flags = flagFor (a .kind) + 256; endpoint = a .endpoint; address = a .address }
+
+-- "access blocked", "fault logged"
+unfoldable pub blocked : Cause → Access → Part → Answer × Part
+blocked cause a p = (Blocked cause, withLog (logged (faultOf cause a) (p .log)) p)
 
 -- "it goes through to address − virt_start + phys_start. Else 8."
-unfoldable pub translated : Endpoint → ℕ → ℕ → Part → Option Mapping → Answer × Part
-translated e address kind p none = blocked Unmapped (faultOf 2 e address kind) p
-translated e address kind p (some r) = (Through (address - r .start + r .phys), p)
-
--- the record by which an access of an endpoint in the key's domain goes through
-unfoldable pub findMapping : ℕ → ℕ → ℕ → List Mapping → Option Mapping
-findMapping key address kind l = find (permits key address kind) l
+unfoldable pub translated : Access → Part → Option Mapping → Answer × Part
+translated a p none = blocked Unmapped a p
+translated a p (some r) = (Through (a .address - r .start + r .phys), p)
 
 -- "Unattached: 7."
-unfoldable pub decided : Own → Part → Endpoint → ℕ → ℕ → Attachment → Answer × Part
-decided o p e address kind none = blocked Unattached (faultOf 1 e address kind) p
-decided o p e address kind (some d) = translated e address kind p (findMapping (keyOf (o .guest) d) address kind (p .records))
+unfoldable pub decided : Own → Part → Access → Attachment → Answer × Part
+decided o p a none = blocked Unattached a p
+decided o p a (some d) = translated a p (findMapping (keyOf (o .guest) d) a (p .records))
 
 -- "An access names endpoint, address and read or write."
-unfoldable pub access : Own → Part → Endpoint → ℕ → ℕ → Answer × Part
-access o p e address kind = decided o p e address kind (attachmentOf e (o .endpoints) (p .attachments))
+unfoldable pub access : Own → Part → Access → Answer × Part
+access o p a = decided o p a (attachmentOf (a .endpoint) (o .endpoints) (p .attachments))
 
 -- "Reset of a guest: its endpoints detached, its records gone, its log empty, its lost count 0."
-unfoldable pub reset : Part → Part
-reset p = record { attachments = replicate (length (p .attachments)) none; records = []; log = noLog }
+unfoldable pub afterReset : Part → Part
+afterReset p = record { attachments = replicate (length (p .attachments)) none; records = []; log = noLog }
 
 -- "Fault record, 24 bytes: reason, three zeros, flags 4, endpoint 4, zero 4, address 8"
 unfoldable pub faultBytes : Fault → List ℕ

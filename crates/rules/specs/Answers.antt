@@ -1,64 +1,45 @@
 -- "Numbers a call gives back", and the values beside them: "On any number but 0, used length, address and fetched count are 0."
 use Prim.Native.Nat.{ℕ}
+use Rattle.rules.specs.declared.Refusal.{Refusal}
+use Rattle.rules.specs.declared.Refusal.the-variants.{NoSuchGuest, Unsound, UnknownType, WrongLength, BadConfiguration, UnknownEndpoint}
+use Rattle.rules.specs.declared.Cause.{Cause}
+use Rattle.rules.specs.declared.Cause.the-variants.{Unattached, Unmapped}
 use Rattle.rules.specs.declared.Answer.{Answer}
-use Rattle.rules.specs.declared.Answer.the-variants.{Done, Served, Through, Fetched, NoSuchGuest, Unsound, UnknownType, WrongLength, BadConfiguration, UnknownEndpoint, Unattached, Unmapped}
+use Rattle.rules.specs.declared.Answer.the-variants.{Done, Served, Through, Fetched, Refused, Blocked}
+use Rattle.rules.specs.declared.Values.{Values}
 
--- document 01's number for each case of an answer
+-- the number of each refusal
+abbrev pub refusalNumber : Refusal → ℕ
+refusalNumber NoSuchGuest = 1
+refusalNumber Unsound = 2
+refusalNumber UnknownType = 3
+refusalNumber WrongLength = 4
+refusalNumber BadConfiguration = 5
+refusalNumber UnknownEndpoint = 6
+
+-- "access blocked, endpoint unattached", "access blocked, no mapping permits it"
+abbrev pub causeNumber : Cause → ℕ
+causeNumber Unattached = 7
+causeNumber Unmapped = 8
+
+-- document 01's number and values for each case of an answer: "used length 4", "An access lands at the address given with 0",
+-- "Fetch [..] gives their number"
+abbrev pub values : Answer → Values
+values Done = record { number = 0; used = 0; address = 0; count = 0 }
+values (Served n) = record { number = 0; used = n; address = 0; count = 0 }
+values (Through a) = record { number = 0; used = 0; address = a; count = 0 }
+values (Fetched n) = record { number = 0; used = 0; address = 0; count = n }
+values (Refused r) = record { number = refusalNumber r; used = 0; address = 0; count = 0 }
+values (Blocked c) = record { number = causeNumber c; used = 0; address = 0; count = 0 }
+
 abbrev pub number : Answer → ℕ
-number Done = 0
-number Served = 0
-number (Through a) = 0
-number (Fetched n) = 0
-number NoSuchGuest = 1
-number Unsound = 2
-number UnknownType = 3
-number WrongLength = 4
-number BadConfiguration = 5
-number UnknownEndpoint = 6
-number Unattached = 7
-number Unmapped = 8
+number a = values a .number
 
--- "Writable part: exactly 4 bytes, status then three zeros; used length 4."
 abbrev pub usedLength : Answer → ℕ
-usedLength Done = 0
-usedLength Served = 4
-usedLength (Through a) = 0
-usedLength (Fetched n) = 0
-usedLength NoSuchGuest = 0
-usedLength Unsound = 0
-usedLength UnknownType = 0
-usedLength WrongLength = 0
-usedLength BadConfiguration = 0
-usedLength UnknownEndpoint = 0
-usedLength Unattached = 0
-usedLength Unmapped = 0
+usedLength a = values a .used
 
--- "An access lands at the address given with 0."
 abbrev pub addressOf : Answer → ℕ
-addressOf Done = 0
-addressOf Served = 0
-addressOf (Through a) = a
-addressOf (Fetched n) = 0
-addressOf NoSuchGuest = 0
-addressOf Unsound = 0
-addressOf UnknownType = 0
-addressOf WrongLength = 0
-addressOf BadConfiguration = 0
-addressOf UnknownEndpoint = 0
-addressOf Unattached = 0
-addressOf Unmapped = 0
+addressOf a = values a .address
 
--- "Fetch [..] gives their number."
 abbrev pub fetchedCount : Answer → ℕ
-fetchedCount Done = 0
-fetchedCount Served = 0
-fetchedCount (Through a) = 0
-fetchedCount (Fetched n) = n
-fetchedCount NoSuchGuest = 0
-fetchedCount Unsound = 0
-fetchedCount UnknownType = 0
-fetchedCount WrongLength = 0
-fetchedCount BadConfiguration = 0
-fetchedCount UnknownEndpoint = 0
-fetchedCount Unattached = 0
-fetchedCount Unmapped = 0
+fetchedCount a = values a .count

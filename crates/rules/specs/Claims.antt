@@ -11,6 +11,7 @@ use Rattle.rules.specs.declared.Guest.{Guest}
 use Rattle.rules.specs.declared.Endpoint.{Endpoint}
 use Rattle.rules.specs.declared.Domain.{Domain}
 use Rattle.rules.specs.declared.Mapping.{Mapping}
+use Rattle.rules.specs.declared.Access.{Access}
 use Rattle.rules.specs.declared.Answer.the-variants.{Done, Through}
 use Rattle.rules.specs.Sizes.{maxRecords}
 use Rattle.rules.specs.Configuration.{Config, share, windowFirst, windowLast}
@@ -22,8 +23,8 @@ use Rattle.rules.specs.Requests.{NOMEM}
 use Rattle.rules.specs.Handlers.{attachmentOf}
 use Rattle.rules.specs.Access.{hasFlag}
 use Rattle.rules.specs.Sound.{sound}
-use Rattle.rules.specs.Device.{Call, request, access-by, Reply, rule, caller, owns, step, setUp}
-use Rattle.rules.specs.History.{takenOver, mappedOver}
+use Rattle.rules.specs.Device.{request, Call, of-guest, access-by, Reply, rule, caller, owns, step, setUp}
+use Rattle.rules.specs.History.{Tally, noTally, history}
 
 -- the guest's attachments, records in table order, log and lost count
 abbrev pub holds : Config → Guest → Device → Part
@@ -63,8 +64,8 @@ WithinWindow c g a = number (a .answer) ≡ 0 → (windowFirst (c .settings) (g 
 abbrev pub AccessesStayInside : Type 0
 AccessesStayInside =
     (c : Config) (table : List ℕ) → setUp c table .answer ≡ Done
-    → (xs : List Call) (e : Endpoint) (address kind : ℕ) (g : Guest) → caller c (access-by e address kind) ≡ some g
-    → WithinWindow c g (step (after step (setUp c table .device) xs) (access-by e address kind) .0)
+    → (xs : List Call) (a : Access) (g : Guest) → caller c (access-by a) ≡ some g
+    → WithinWindow c g (step (after step (setUp c table .device) xs) (access-by a) .0)
 
 -- 3. RECORDS HELD ARE THE HISTORY'S: held and taken away together are those mapped
 
@@ -72,8 +73,8 @@ abbrev pub HeldIsHistory : Type 0
 HeldIsHistory =
     (c : Config) (table : List ℕ) → setUp c table .answer ≡ Done
     → (g : Guest) → g .0 < c .settings .guests → (xs : List Call)
-    → length (holds c g (after step (setUp c table .device) xs) .records) + takenOver c g (setUp c table .device) xs
-    ≡ mappedOver c g (setUp c table .device) xs
+    → length (holds c g (after step (setUp c table .device) xs) .records) + history c g (setUp c table .device) xs noTally .taken
+    ≡ history c g (setUp c table .device) xs noTally .mapped
 
 -- 4. SOUNDNESS IS KEPT
 
@@ -92,44 +93,45 @@ NeverUnsound =
 -- 5. AN ACCESS GOES THROUGH EXACTLY WHEN A LIVE RECORD PERMITS IT
 
 -- the live record at place i is of guest g's domain, covers the address and has the flag
-pub record Permitting (d : Device) (g : Guest) (domain : Domain) (address kind i : ℕ) (r : Mapping) : Type 0 where
+pub record Permitting (d : Device) (g : Guest) (domain : Domain) (a : Access) (i : ℕ) (r : Mapping) : Type 0 where
   pub live : i < length (read d .records)
   pub there : getD (read d .records) i (mapping 0 0 0 0 0) ≡ r
   pub key : r .key ≡ keyOf g domain
-  pub from : r .start ≤ address
-  pub to : address ≤ r .end
-  pub flag : hasFlag kind (r .flags) ≡ true
+  pub from : r .start ≤ a .address
+  pub to : a .address ≤ r .end
+  pub flag : hasFlag (a .kind) (r .flags) ≡ true
 
 -- the domain that guest g's endpoint e is attached to
 abbrev pub attachedTo : Device → Guest → Endpoint → Option Domain
 attachedTo d g e = attachmentOf e (own (configOf (d .state)) g .endpoints) (part (configOf (d .state)) g (read d) .attachments)
 
 -- the access goes through to this address
-abbrev pub GoesTo : Device → Endpoint → ℕ → ℕ → ℕ → Type 0
-GoesTo d e address kind to = step d (access-by e address kind) .0 .answer ≡ Through to
+abbrev pub GoesTo : Device → Access → ℕ → Type 0
+GoesTo d a to = step d (access-by a) .0 .answer ≡ Through to
 
 abbrev pub OnlyWhenPermitted : Type 0
 OnlyWhenPermitted =
     (d : Device) → sound d ≡ true
-    → (e : Endpoint) (address kind to : ℕ) (g : Guest) → caller (configOf (d .state)) (access-by e address kind) ≡ some g
-    → GoesTo d e address kind to
-    → (domain : Domain) × (i : ℕ) × (r : Mapping) × (attachedTo d g e ≡ some domain) × Permitting d g domain address kind i r × (to ≡ address - r .start + r .phys)
+    → (a : Access) (to : ℕ) (g : Guest) → caller (configOf (d .state)) (access-by a) ≡ some g
+    → GoesTo d a to
+    → (domain : Domain) × (i : ℕ) × (r : Mapping)
+    × (attachedTo d g (a .endpoint) ≡ some domain) × Permitting d g domain a i r × (to ≡ a .address - r .start + r .phys)
 
 abbrev pub WheneverPermitted : Type 0
 WheneverPermitted =
     (d : Device) → sound d ≡ true
-    → (e : Endpoint) (address kind : ℕ) (g : Guest) → caller (configOf (d .state)) (access-by e address kind) ≡ some g
-    → (domain : Domain) → attachedTo d g e ≡ some domain
-    → (i : ℕ) (r : Mapping) → Permitting d g domain address kind i r
-    → GoesTo d e address kind (address - r .start + r .phys)
+    → (a : Access) (g : Guest) → caller (configOf (d .state)) (access-by a) ≡ some g
+    → (domain : Domain) → attachedTo d g (a .endpoint) ≡ some domain
+    → (i : ℕ) (r : Mapping) → Permitting d g domain a i r
+    → GoesTo d a (a .address - r .start + r .phys)
 
 -- 6. "NOMEM HAS NO OTHER CAUSE" than the guest's share
 
 abbrev pub NoMemOnlyByShare : Type 0
 NoMemOnlyByShare =
     (d : Device) → sound d ≡ true
-    → (g : Guest) (readable writable : List ℕ) → usedLength (step d (request g readable writable) .0 .answer) ≡ 4
-    → getD (step d (request g readable writable) .0 .buffer) 0 0 ≡ NOMEM
+    → (g : Guest) (readable writable : List ℕ) → usedLength (step d (of-guest g (request readable writable)) .0 .answer) ≡ 4
+    → getD (step d (of-guest g (request readable writable)) .0 .buffer) 0 0 ≡ NOMEM
     → share (configOf (d .state) .settings) (g .0) ≤ length (holds (configOf (d .state)) g d .records)
 
 -- whenever a guest holds less than its share there is room in the table

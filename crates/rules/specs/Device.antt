@@ -8,24 +8,30 @@ use lib.ListN.{length, replicate}
 use Rattle.laws.specs.Lists.{firstFailing}
 use Rattle.rules.specs.declared.Guest.{Guest}
 use Rattle.rules.specs.declared.Endpoint.{Endpoint}
-use Rattle.rules.specs.declared.State.{State}
+use Rattle.rules.specs.declared.Access.{Access}
 use Rattle.rules.specs.declared.Answer.{Answer}
-use Rattle.rules.specs.declared.Answer.the-variants.{Done, Served, Fetched, NoSuchGuest, Unsound, BadConfiguration, UnknownEndpoint}
+use Rattle.rules.specs.declared.Answer.the-variants.{Done, Served, Fetched, Refused}
+use Rattle.rules.specs.declared.Refusal.{Refusal}
+use Rattle.rules.specs.declared.Refusal.the-variants.{NoSuchGuest, Unsound, BadConfiguration, UnknownEndpoint}
 use Rattle.rules.specs.Sizes.{tableWords}
 use Rattle.rules.specs.Configuration.{Config, good}
 use Rattle.rules.specs.State.{World, Device, configOf, read, write, stateOf, start, zeroState}
 use Rattle.rules.specs.Guests.{Own, Part, own, part, replace, withLog}
 use Rattle.rules.specs.Requests.{requestRefusals}
 use Rattle.rules.specs.Handlers.{handle}
-use Rattle.rules.specs.Access.{access, reset, fetchable, fetchedInto, fetchedFrom}
+use Rattle.rules.specs.Access.{access, afterReset, fetchable, fetchedInto, fetchedFrom}
 use Rattle.rules.specs.Sound.{sound}
 
--- a call, with the bytes and the buffers as lent
+-- what a guest asks of the device, with the bytes and the buffers as lent
+pub data Job : Type 0 where
+  request : (readable writable : List ℕ) → Job
+  reset : Job
+  fetch : (buffer : List ℕ) → Job
+
+-- a call: a guest's job, or an access
 pub data Call : Type 0 where
-  request : (g : Guest) (readable writable : List ℕ) → Call
-  access-by : (e : Endpoint) (address kind : ℕ) → Call
-  reset-of : (g : Guest) → Call
-  fetch-for : (g : Guest) (buffer : List ℕ) → Call
+  of-guest : (g : Guest) (j : Job) → Call
+  access-by : (a : Access) → Call
 
 -- all that a call gives back besides state and table: the answer, and the lent buffer as left (none: empty)
 pub record Reply : Type 0 where
@@ -33,39 +39,46 @@ pub record Reply : Type 0 where
   pub buffer : List ℕ
 
 -- the buffer that a call writes, as lent
+abbrev pub lentFor : Job → List ℕ
+lentFor (request r w) = w
+lentFor reset = []
+lentFor (fetch b) = b
+
 abbrev pub lent : Call → List ℕ
-lent (request g r w) = w
-lent (access-by e a k) = []
-lent (reset-of g) = []
-lent (fetch-for g b) = b
+lent (of-guest g j) = lentFor j
+lent (access-by a) = []
 
 -- a refusal leaves the buffer as lent
-abbrev pub refused : Answer → Call → Reply
-refused a x = record { answer = a; buffer = lent x }
+abbrev pub refusedWith : Refusal → Call → Reply
+refusedWith e x = record { answer = Refused e; buffer = lent x }
 
 -- RULES OF ONE GUEST
 
--- "Writable part: exactly 4 bytes, status then three zeros"
+-- "Writable part: exactly 4 bytes, status then three zeros; used length 4."
 abbrev pub served : ℕ × Part → Reply × Part
-served r = (record { answer = Served; buffer = r .0 ∷ 0 ∷ 0 ∷ 0 ∷ [] }, r .1)
+served r = (record { answer = Served 4; buffer = r .0 ∷ 0 ∷ 0 ∷ 0 ∷ [] }, r .1)
 
 -- the request, unless a refusal comes first
-unfoldable pub requested : Own → Part → List ℕ → List ℕ → Option Answer → Reply × Part
+unfoldable pub requested : Own → Part → List ℕ → List ℕ → Option Refusal → Reply × Part
 requested o p r w none = served (handle o p r)
-requested o p r w (some a) = (record { answer = a; buffer = w }, p)
+requested o p r w (some e) = (record { answer = Refused e; buffer = w }, p)
 
-abbrev pub accessed : Answer × Part → Reply × Part
-accessed r = (record { answer = r .0; buffer = [] }, r .1)
+abbrev pub accessReply : Answer × Part → Reply × Part
+accessReply r = (record { answer = r .0; buffer = [] }, r .1)
 
 abbrev pub fetched : ℕ → Part → List ℕ → Reply × Part
 fetched n p buffer = (record { answer = Fetched n; buffer = fetchedInto n (p .log) buffer }, withLog (fetchedFrom n (p .log)) p)
 
+-- what a guest's job is answered, and the guest's part afterwards
+unfoldable pub jobRule : Own → Part → Job → Reply × Part
+jobRule o p (request r w) = requested o p r w (firstFailing (requestRefusals r (length w)))
+jobRule o p reset = (record { answer = Done; buffer = [] }, afterReset p)
+jobRule o p (fetch b) = fetched (fetchable (p .log) b) p b
+
 -- what a call of the guest's own is answered, and the guest's part afterwards
 unfoldable pub rule : Own → Part → Call → Reply × Part
-rule o p (request g r w) = requested o p r w (firstFailing (requestRefusals r (length w)))
-rule o p (access-by e a k) = accessed (access o p e a k)
-rule o p (reset-of g) = (record { answer = Done; buffer = [] }, reset p)
-rule o p (fetch-for g b) = fetched (fetchable (p .log) b) p b
+rule o p (of-guest g j) = jobRule o p j
+rule o p (access-by a) = accessReply (access o p a)
 
 -- WHOSE CALL IT IS
 
@@ -77,10 +90,8 @@ ownerOf e (k ∷ es) (o ∷ os) = cond (eqb k (e .0)) (some (record { 0 = o })) 
 
 -- "the requests, resets and fetches under its number; its devices' accesses name an endpoint it owns"
 unfoldable pub caller : Config → Call → Option Guest
-caller c (request g r w) = some g
-caller c (access-by e a k) = ownerOf e (c .endpoints) (c .owners)
-caller c (reset-of g) = some g
-caller c (fetch-for g b) = some g
+caller c (of-guest g j) = some g
+caller c (access-by a) = ownerOf (a .endpoint) (c .endpoints) (c .owners)
 
 abbrev pub is : Guest → Option Guest → Bool
 is g none = false
@@ -98,15 +109,13 @@ work c g w x = (rule (own c g) (part c g w) x .0, replace c g (rule (own c g) (p
 
 -- "guest number not below the guest count"; an access names no guest
 abbrev pub numbered : Config → Call → Bool
-numbered c (request g r w) = ltb (g .0) (c .settings .guests)
-numbered c (access-by e a k) = true
-numbered c (reset-of g) = ltb (g .0) (c .settings .guests)
-numbered c (fetch-for g b) = ltb (g .0) (c .settings .guests)
+numbered c (of-guest g j) = ltb (g .0) (c .settings .guests)
+numbered c (access-by a) = true
 
 -- on sound state and table: "access by an endpoint not listed", else the caller's rule
-unfoldable pub worked : Device → Option Guest → Call → Reply × Device
-worked d none x = (refused UnknownEndpoint x, d)
-worked d (some g) x = (work c g (read d) x .0, write c (work c g (read d) x .1))
+unfoldable pub performed : Device → Option Guest → Call → Reply × Device
+performed d none x = (refusedWith UnknownEndpoint x, d)
+performed d (some g) x = (work c g (read d) x .0, write c (work c g (read d) x .1))
   where
     c : Config
     c = configOf (d .state)
@@ -114,9 +123,9 @@ worked d (some g) x = (work c g (read d) x .0, write c (work c g (read d) x .1))
 -- one call: number 1, then 2, then 6, then the rule. On 1, 2 and 6 "nothing changes"
 unfoldable pub step : Device → Call → Reply × Device
 step d x =
-    cond (not (numbered (configOf (d .state)) x)) (refused NoSuchGuest x, d)
-    (cond (not (sound d)) (refused Unsound x, d)
-    (worked d (caller (configOf (d .state)) x) x))
+    cond (not (numbered (configOf (d .state)) x)) (refusedWith NoSuchGuest x, d)
+    (cond (not (sound d)) (refusedWith Unsound x, d)
+    (performed d (caller (configOf (d .state)) x) x))
 
 -- SET-UP
 
@@ -128,6 +137,6 @@ pub record SetUp : Type 0 where
 -- unattached, logs empty." On 5: "table untouched; the state given back has every number zero"
 unfoldable pub setUp : Config → List ℕ → SetUp
 setUp c table =
-    cond (not (eqb (length table) tableWords)) (record { answer = Unsound; device = record { state = zeroState; table = table } })
-    (cond (not (good c)) (record { answer = BadConfiguration; device = record { state = zeroState; table = table } })
+    cond (not (eqb (length table) tableWords)) (record { answer = Refused Unsound; device = record { state = zeroState; table = table } })
+    (cond (not (good c)) (record { answer = Refused BadConfiguration; device = record { state = zeroState; table = table } })
     (record { answer = Done; device = record { state = stateOf c (start c); table = replicate tableWords 0 } }))

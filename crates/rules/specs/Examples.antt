@@ -17,9 +17,9 @@ use Rattle.rules.specs.State.{Device, configOf, read, write, stateOf, tr
 use Rattle.rules.specs.Guests.{own, part, replace, withRecordsOf}
 use Rattle.rules.specs.Requests.{OK, RANGE, NOMEM, ATTACH, MAP, UNMAP}
 use Rattle.rules.specs.Handlers.{settle, outside, isIn, exists, listed, ofKey, without, leave, enter, moveFrom, attached, handleAttach, handleDetach, granularity, formSteps, handleMap, inside, straddles, handleUnmap, handle}
-use Rattle.rules.specs.Access.{reset}
+use Rattle.rules.specs.Access.{afterReset}
 use Rattle.rules.specs.Sound.{guest, recordGood, attachmentGood, faultGood, zeroFrom, faultPlaceGood, sound}
-use Rattle.rules.specs.Device.{Call, request, Reply, requested, rule, caller, work, worked, step, setUp}
+use Rattle.rules.specs.Device.{request, Call, of-guest, Reply, requested, jobRule, rule, caller, work, performed, step, setUp}
 
 -- one guest with a share of 2 and endpoint 8; every address and every domain number is allowed
 config : Config
@@ -41,7 +41,7 @@ config =
 
 -- a request of guest 0, with a writable part of four bytes that are not zero
 asks : ℕ → List ℕ → Call
-asks type fields = request (guest 0) (type ∷ 0 ∷ 0 ∷ 0 ∷ fields) (replicate 4 255)
+asks type fields = of-guest (guest 0) (request (type ∷ 0 ∷ 0 ∷ 0 ∷ fields) (replicate 4 255))
 
 -- endpoint 8 to domain 1
 attaches : Call
@@ -107,5 +107,5 @@ wanted e = (L.map worked-request (e .statuses), e .held)
 
 -- P1 to P10
 pub worked-examples : L.map shown examples ≡ L.map wanted examples
-unfolding shown wanted examples config asks attaches maps unmaps ready told worked-request addressesOf below sumBelow tabFrom trailingZeros goodSettings goodLists good tableOf before overlap configOf read write stateOf trimmed start zeroState own part replace withRecordsOf settle outside isIn exists listed ofKey without leave enter moveFrom attached handleAttach handleDetach granularity formSteps handleMap inside straddles handleUnmap handle reset recordGood attachmentGood faultGood zeroFrom faultPlaceGood sound requested rule caller work worked step setUp
+unfolding shown wanted examples config asks attaches maps unmaps ready told worked-request addressesOf below sumBelow tabFrom trailingZeros goodSettings goodLists good tableOf before overlap configOf read write stateOf trimmed start zeroState own part replace withRecordsOf settle outside isIn exists listed ofKey without leave enter moveFrom attached handleAttach handleDetach granularity formSteps handleMap inside straddles handleUnmap handle afterReset recordGood attachmentGood faultGood zeroFrom faultPlaceGood sound requested jobRule rule caller work performed step setUp
 worked-examples = refl

@@ -20,7 +20,7 @@ use Rattle.rules.specs.Answers.{usedLength}
 use Rattle.rules.specs.Requests.{OK, ATTACH, DETACH, MAP, requestRefusals, typeOf, domainField, endpointField, attachReserved, virtStart, virtEnd, unmapReserved}
 use Rattle.rules.specs.Handlers.{isIn, exists, attachmentOf, attachedAs, ofKey, attachSteps, detachSteps, inside, unmapSteps}
 use Rattle.rules.specs.Sound.{passes}
-use Rattle.rules.specs.Device.{Call, request, access-by, reset-of, fetch-for, Reply, owns, step}
+use Rattle.rules.specs.Device.{Job, request, reset, fetch, Call, of-guest, access-by, Reply, owns, step}
 
 -- a detach of endpoint e from domain d takes the record away: e was the domain's last endpoint, and the record is the domain's
 abbrev pub goneWithDomain : Own → Part → Endpoint → Domain → Mapping → Bool
@@ -44,29 +44,44 @@ goneByRequest o p q r =
     (passes (firstFailing (unmapSteps o p (domainField q) (virtStart q) (virtEnd q) (unmapReserved q)))
     && inside (keyOf (o .guest) (domainField q)) (virtStart q) (virtEnd q) r)))
 
+-- a guest's job takes the record away
+unfoldable pub goneByJob : Own → Part → Job → Mapping → Bool
+goneByJob o p (request q w) r = passes (firstFailing (requestRefusals q (length w))) && goneByRequest o p q r
+goneByJob o p reset r = true
+goneByJob o p (fetch b) r = false
+
 -- a call of the guest's own takes the record away
 unfoldable pub gone : Own → Part → Call → Mapping → Bool
-gone o p (request g q w) r = passes (firstFailing (requestRefusals q (length w))) && goneByRequest o p q r
-gone o p (access-by e a k) r = false
-gone o p (reset-of g) r = true
-gone o p (fetch-for g b) r = false
+gone o p (of-guest g j) r = goneByJob o p j r
+gone o p (access-by a) r = false
 
 -- how many records a call of the guest's own takes away
 unfoldable pub takenAway : Own → Part → Call → ℕ
 takenAway o p x = length (keep (gone o p x) (p .records))
 
 -- a MAP answered OK: type 3, worked, and the status byte is OK
+unfoldable pub mappedByJob : Job → Reply → Bool
+mappedByJob (request q w) a = eqb (typeOf q) MAP && (eqb (usedLength (a .answer)) 4 && eqb (getD (a .buffer) 0 0) OK)
+mappedByJob reset a = false
+mappedByJob (fetch b) a = false
+
 unfoldable pub mapped : Call → Reply → Bool
-mapped (request g q w) a = eqb (typeOf q) MAP && (eqb (usedLength (a .answer)) 4 && eqb (getD (a .buffer) 0 0) OK)
-mapped (access-by e x k) a = false
-mapped (reset-of g) a = false
-mapped (fetch-for g b) a = false
+mapped (of-guest g j) a = mappedByJob j a
+mapped (access-by x) a = false
 
--- the same over a list of calls, for those of guest g
-abbrev pub takenOver : Config → Guest → Device → List Call → ℕ
-takenOver c g d [] = 0
-takenOver c g d (x ∷ xs) = cond (owns c g x) (takenAway (own c g) (part c g (read d)) x) 0 + takenOver c g (step d x .1) xs
+-- how many records a guest's calls have mapped and taken away so far
+pub record Tally : Type 0 where
+  pub mapped : ℕ
+  pub taken : ℕ
 
-abbrev pub mappedOver : Config → Guest → Device → List Call → ℕ
-mappedOver c g d [] = 0
-mappedOver c g d (x ∷ xs) = cond (owns c g x && mapped x (step d x .0)) 1 0 + mappedOver c g (step d x .1) xs
+abbrev pub noTally : Tally
+noTally = record { mapped = 0; taken = 0 }
+
+-- with one call of the guest's own more, worked on its part p and replied to with a
+abbrev pub counted : Own → Part → Call → Reply → Tally → Tally
+counted o p x a t = record { mapped = t .mapped + cond (mapped x a) 1 0; taken = t .taken + takenAway o p x }
+
+-- "counted over the history": the calls from the device d on, of which those of guest g count
+abbrev pub history : Config → Guest → Device → List Call → Tally → Tally
+history c g d [] t = t
+history c g d (x ∷ xs) t = history c g (step d x .1) xs (cond (owns c g x) (counted (own c g) (part c g (read d)) x (step d x .0) t) t)

@@ -7,8 +7,8 @@ use lib.ListN.{length, getD}
 use Rattle.laws.specs.Bytes.{leField}
 use Rattle.rules.specs.declared.Endpoint.{Endpoint}
 use Rattle.rules.specs.declared.Domain.{Domain}
-use Rattle.rules.specs.declared.Answer.{Answer}
-use Rattle.rules.specs.declared.Answer.the-variants.{UnknownType, WrongLength}
+use Rattle.rules.specs.declared.Refusal.{Refusal}
+use Rattle.rules.specs.declared.Refusal.the-variants.{UnknownType, WrongLength}
 
 -- "Statuses: OK 0, IOERR 1, UNSUPP 2, DEVERR 3, INVAL 4, RANGE 5, NOENT 6, FAULT 7, NOMEM 8."
 abbrev pub OK : ℕ
@@ -89,7 +89,7 @@ abbrev pub unmapReserved : List ℕ → ℕ
 unmapReserved r = leField 24 4 r
 
 -- "Requests: 1, 2, 4 (below 4 bytes), 3, 4 (lengths)": the last three, of the readable part r and a writable part of n bytes
-abbrev pub requestRefusals : List ℕ → ℕ → List (Bool × Answer)
+abbrev pub requestRefusals : List ℕ → ℕ → List (Bool × Refusal)
 requestRefusals r n =
     -- "readable part below 4 bytes"
     (ltb (length r) 4, WrongLength)

@@ -82,16 +82,16 @@ pub struct Fault {
     pub address: u64,
 }
 
-// What a call is answered.
-pub enum Answer {
-    // Set-up or reset, done.
-    Done,
-    // A request, worked: its status is in the writable part.
-    Served,
-    // An access that goes through to this address.
-    Through(u64),
-    // A fetch that gave so many faults.
-    Fetched(usize),
+// An access: the endpoint that makes it, the address, and its kind, 0 a read and any other a write.
+#[repr(C)]
+pub struct Access {
+    pub endpoint: Endpoint,
+    pub address: u64,
+    pub kind: u8,
+}
+
+// Why a call is refused; a refused call changes nothing.
+pub enum Refusal {
     // The guest number is not below the guest count.
     NoSuchGuest,
     // The table's length, or the state and table, are not sound.
@@ -104,8 +104,34 @@ pub enum Answer {
     BadConfiguration,
     // The endpoint of an access is not listed.
     UnknownEndpoint,
-    // The endpoint of an access is not attached.
+}
+
+// Why an access is blocked; a blocked access is logged as a fault.
+pub enum Cause {
+    // The endpoint is not attached.
     Unattached,
-    // No mapping permits an access.
+    // No mapping permits the access.
     Unmapped,
+}
+
+// What a call is answered.
+pub enum Answer {
+    // Set-up or reset, done.
+    Done,
+    // A request, worked: so many bytes of the writable part are used, and the status is among them.
+    Served(usize),
+    // An access that goes through to this address.
+    Through(u64),
+    // A fetch that gave so many faults.
+    Fetched(usize),
+    Refused(Refusal),
+    Blocked(Cause),
+}
+
+// What a call gives back for an answer: its number, and the values beside it.
+pub struct Values {
+    pub number: u8,
+    pub used: usize,
+    pub address: u64,
+    pub count: usize,
 }
