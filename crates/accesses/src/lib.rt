@@ -8,7 +8,7 @@ ghost use Rattle.rules.specs.Device.{step, access-by};
 ghost use Rattle.state.specs.Pieces.{stateWith, Shaped};
 ghost use Rattle.soundness.specs.Pieces.{deviceWith};
 ghost use Rattle.effects.specs.Flat.{device};
-ghost use Rattle.effects.specs.Checked.{replied};
+ghost use Rattle.effects.specs.Replied.{replied};
 use effects::Given;
 use rules::Answer;
 use rules::Endpoint;

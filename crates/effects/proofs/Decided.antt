@@ -22,7 +22,11 @@ use Rattle.rules.specs.declared.State.{State}
 use Rattle.rules.specs.declared.Mapping.{Mapping}
 use Rattle.rules.specs.declared.Fault.{Fault}
 use Rattle.rules.specs.declared.Answer.{Answer}
-use Rattle.rules.specs.declared.Answer.the-variants.{Done, Served, Through, Fetched, NoSuchGuest, Unsound, UnknownType, WrongLength, BadConfiguration, UnknownEndpoint, Unattached, Unmapped}
+use Rattle.rules.specs.declared.Answer.the-variants.{Done, Served, Through, Fetched, Refused, Blocked}
+use Rattle.rules.specs.declared.Refusal.the-variants.{UnknownEndpoint}
+use Rattle.rules.specs.declared.Cause.{Cause}
+use Rattle.rules.specs.declared.Cause.the-variants.{Unattached, Unmapped}
+use Rattle.rules.specs.declared.Access.{Access}
 use Rattle.rules.proofs.Answer as answer
 use Rattle.rules.specs.Sizes.{maxFaults, domainSpan}
 use Rattle.rules.specs.State.{faultAt}
@@ -35,7 +39,7 @@ use Rattle.lookups.proofs.Outcomes.{found-at, found-nothing}
 use Rattle.logging.specs.Changes.{faultLogged}
 use Rattle.attachments.specs.Search.{indexOf}
 use Rattle.fault_records.proofs.Laws.{length-fault, fault-whole}
-use Rattle.effects.specs.Flat.{placeOfEndpoint, answerOf, decided, reasonOf, accessed, fetchBytes}
+use Rattle.effects.specs.Flat.{placeOfEndpoint, answerOf, decisionAt, afterAccess, fetchBytes}
 
 -- ACCESS
 
@@ -44,66 +48,54 @@ module _ (f : Found) (o : Option Mapping) (gave : f ≡ foundOf o) where
   pub found-record : (r : Mapping) → f ≡ At r → o ≡ some r
   found-record r e = found-at o r (sym e ∙ gave)
 
-  pub answers-through : (x : ℕ) (r : Mapping) → f ≡ At r → Through (x - r .start + r .phys) ≡ answerOf x o
+  pub answers-through : (a : Access) (r : Mapping) → f ≡ At r → Through (a .address - r .start + r .phys) ≡ answerOf a o
   unfolding answerOf
-  answers-through x r e = rw (found-record r e)
+  answers-through a r e = rw (found-record r e)
 
-  pub answers-unmapped : (x : ℕ) → f ≡ Nothing → Unmapped ≡ answerOf x o
+  pub answers-unmapped : (a : Access) → f ≡ Nothing → Blocked Unmapped ≡ answerOf a o
   unfolding answerOf
-  answers-unmapped x e = rw (found-nothing o (sym e ∙ gave))
+  answers-unmapped a e = rw (found-nothing o (sym e ∙ gave))
 
 -- a record that lets an access through starts no later than the address
-pub starts-before : (key x k : ℕ) (l : List Mapping) (r : Mapping) → findMapping key x k l ≡ some r → r .start ≤ x
+pub starts-before : (key : ℕ) (a : Access) (l : List Mapping) (r : Mapping) → findMapping key a l ≡ some r → r .start ≤ a .address
 unfolding findMapping
-starts-before key x k l r e = permits-covers key x k r (found-passes (permits key x k) l r e) .from
+starts-before key a l r e = permits-covers key a r (found-passes (permits key a) l r e) .from
 
-module _ (n : ℕ) (endpoints owners attached domains : List ℕ) (l : List Mapping) (e : Endpoint) (x k i : ℕ) (at : i ≡ indexOf (e .0) (take n endpoints)) where
-  pub decides-unknown : n ≤ i → UnknownEndpoint ≡ decided n endpoints owners attached domains l e x k
-  unfolding decided
-  decides-unknown h = rw (sym at, le-ltb i n h)
+module _ (i n : ℕ) (owners attached domains : List ℕ) (l : List Mapping) (a : Access) where
+  pub decides-unknown : n ≤ i → Refused UnknownEndpoint ≡ decisionAt i n owners attached domains l a
+  unfolding decisionAt
+  decides-unknown h = rw (le-ltb i n h)
 
-  pub decides-unattached : i < n → (getD attached i 0 ≡ 1 → ⊥) → Unattached ≡ decided n endpoints owners attached domains l e x k
-  unfolding decided
-  decides-unattached h f = rw (sym at, lt-ltb i n h, ne-eqb (getD attached i 0) 1 f)
+  pub decides-unattached : i < n → (getD attached i 0 ≡ 1 → ⊥) → Blocked Unattached ≡ decisionAt i n owners attached domains l a
+  unfolding decisionAt
+  decides-unattached h f = rw (lt-ltb i n h, ne-eqb (getD attached i 0) 1 f)
 
-  pub decides-answer : i < n → getD attached i 0 ≡ 1 → (key : ℕ) (a : Answer) → key ≡ getD owners i 0 * domainSpan + getD domains i 0 → a ≡ answerOf x (findMapping key x k l) → a ≡ decided n endpoints owners attached domains l e x k
-  unfolding decided
-  decides-answer h f key a q r = rw (sym at, lt-ltb i n h, eq-eqb (getD attached i 0) 1 f, sym q) r
+  pub decides-answer : i < n → getD attached i 0 ≡ 1 → (key : ℕ) (x : Answer) → key ≡ getD owners i 0 * domainSpan + getD domains i 0 → x ≡ answerOf a (findMapping key a l) → x ≡ decisionAt i n owners attached domains l a
+  unfolding decisionAt
+  decides-answer h f key x q r = rw (lt-ltb i n h, eq-eqb (getD attached i 0) 1 f, sym q) r
 
 -- A BLOCKED ACCESS
 
 -- the tags of the answers that log no fault
-abbrev unlogged : List ℕ
-unlogged = 0 ∷ 1 ∷ 2 ∷ 3 ∷ 4 ∷ 5 ∷ 6 ∷ 7 ∷ 8 ∷ 9 ∷ []
+abbrev pub unlogged : List ℕ
+unlogged = 0 ∷ 1 ∷ 2 ∷ 3 ∷ 4 ∷ []
 
-pub no-reason : (a : Answer) → OneOf unlogged (tagOf answer.the-type a) → 0 ≡ reasonOf a
-no-reason Done h = refl
-no-reason Served h = refl
-no-reason (Through x) h = refl
-no-reason (Fetched n) h = refl
-no-reason NoSuchGuest h = refl
-no-reason Unsound h = refl
-no-reason UnknownType h = refl
-no-reason WrongLength h = refl
-no-reason BadConfiguration h = refl
-no-reason UnknownEndpoint h = refl
-no-reason Unattached h = absurd (miss unlogged 10 tt h)
-no-reason Unmapped h = absurd (miss unlogged 11 tt h)
+module _ (s : State) (a : Access) where
+  pub logs-nothing : (x : Answer) → OneOf unlogged (tagOf answer.the-type x) → s ≡ afterAccess s a x
+  unfolding afterAccess
+  logs-nothing Done h = refl
+  logs-nothing (Served n) h = refl
+  logs-nothing (Through y) h = refl
+  logs-nothing (Fetched n) h = refl
+  logs-nothing (Refused e) h = refl
+  logs-nothing (Blocked c) h = absurd (miss unlogged 5 tt h)
 
-pub fault-read : (reason : ℕ) (e : Endpoint) (x k : ℕ) → k ≡ 0 → record { reason = reason; flags = 257; endpoint = e; address = x } ≡ faultOf reason e x k
-fault-read reason e x k h = rw (eq-eqb k 0 h)
+  pub logs-fault : (c : Cause) (i owner : ℕ) (f : Fault) (t : State) → i ≡ placeOfEndpoint s (a .endpoint) → owner ≡ getD (s .owners) i 0 → f ≡ faultOf c a → t ≡ faultLogged s owner f → t ≡ afterAccess s a (Blocked c)
+  unfolding afterAccess
+  logs-fault c i owner f t p q r u = rw (sym p, sym q, sym r) u
 
-pub fault-write : (reason : ℕ) (e : Endpoint) (x k : ℕ) → (k ≡ 0 → ⊥) → record { reason = reason; flags = 258; endpoint = e; address = x } ≡ faultOf reason e x k
-fault-write reason e x k h = rw (ne-eqb k 0 h)
-
-module _ (s : State) (e : Endpoint) (x k : ℕ) (a : Answer) (reason : ℕ) (is : reason ≡ reasonOf a) where
-  pub logs-nothing : reason ≡ 0 → s ≡ accessed s e x k a
-  unfolding accessed
-  logs-nothing h = rw (sym is, eq-eqb reason 0 h)
-
-  pub logs-fault : (reason ≡ 0 → ⊥) → (i owner : ℕ) (f : Fault) (t : State) → i ≡ placeOfEndpoint s e → owner ≡ getD (s .owners) i 0 → f ≡ faultOf reason e x k → t ≡ faultLogged s owner f → t ≡ accessed s e x k a
-  unfolding accessed
-  logs-fault h i owner f t p q r u = rw (sym is, ne-eqb reason 0 h, sym p, sym q, sym r) u
+  pub logs-blocked : (x : Answer) (c : Cause) (t : State) → x ≡ Blocked c → t ≡ afterAccess s a (Blocked c) → t ≡ afterAccess s a x
+  logs-blocked x c t e u = rw e u
 
 -- FETCH
 

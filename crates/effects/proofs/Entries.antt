@@ -20,7 +20,10 @@ use Rattle.rules.specs.declared.Endpoint.{Endpoint}
 use Rattle.rules.specs.declared.State.{State}
 use Rattle.rules.specs.declared.Mapping.{Mapping}
 use Rattle.rules.specs.declared.Answer.{Answer}
-use Rattle.rules.specs.declared.Answer.the-variants.{Done, Served, Fetched, NoSuchGuest, Unsound}
+use Rattle.rules.specs.declared.Answer.the-variants.{Done, Served, Fetched, Refused}
+use Rattle.rules.specs.declared.Refusal.{Refusal}
+use Rattle.rules.specs.declared.Refusal.the-variants.{NoSuchGuest, Unsound}
+use Rattle.rules.specs.declared.Access.{Access}
 use Rattle.rules.specs.Sizes.{maxGuests, maxEndpoints, maxRecords, maxFaults, faultSize}
 use Rattle.rules.specs.Configuration.{windowFirst, windowLast, good}
 use Rattle.rules.specs.Table.{records}
@@ -30,7 +33,7 @@ use Rattle.rules.specs.Requests.{ATTACH, UNMAP, requestRefusals, typeOf, writab
 use Rattle.rules.specs.Handlers.{outside, formSteps}
 use Rattle.rules.specs.Access.{permits, findMapping}
 use Rattle.rules.specs.Sound.{guest, sound}
-use Rattle.rules.specs.Device.{request, access-by, reset-of, fetch-for, Reply, refused, step}
+use Rattle.rules.specs.Device.{Job, request, reset, fetch, of-guest, access-by, Reply, lentFor, refusedWith, step}
 use Rattle.rules.proofs.Parts.{outside-high, record-form, recordOk}
 use Rattle.rules.proofs.Worlds.{Whole}
 use Rattle.rules.proofs.Accesses.{permits-covers}
@@ -38,87 +41,61 @@ use Rattle.rules.proofs.Reading.{tests, sound-good, sound-whole}
 use Rattle.rules.proofs.Soundness.{all-guests}
 use Rattle.state.specs.Pieces.{Shaped}
 use Rattle.layouts.specs.declared.request.Request.{Request}
-use Rattle.layouts.specs.declared.request.Request.the-variants.{Refused, Attach, Detach, Map, Unmap}
+use Rattle.layouts.specs.declared.request.Request.the-variants.{Attach, Detach, Map, Unmap}
+use Rattle.layouts.specs.declared.request.Request.the-variants as Q
 use Rattle.layouts.specs.Parsed.{mapFields, unmapFields, asked, unless, parsed}
 use Rattle.layouts.proofs.request.Request as request-type
-use Rattle.effects.specs.Flat.{device, Worked, worked, resetFlat, decision, accessed, fetchCount, fetchBytes}
+use Rattle.effects.specs.Flat.{device, Worked, worked, resetFlat, decision, afterAccess, fetchCount, fetchBytes}
+use Rattle.effects.specs.declared.Checked.{Checked}
+use Rattle.effects.specs.declared.Checked.the-variants.{Passed}
+use Rattle.effects.specs.declared.Checked.the-variants as C
+use Rattle.effects.specs.Checks.{jobChecked}
 use Rattle.effects.specs.Serve.{handled}
 use Rattle.effects.proofs.Shape.{small-count}
 use Rattle.effects.proofs.Stepped.{no-such-guest, unsound, reset-step, refused-step, served-step}
 use Rattle.dropping.specs.Changes.{faultsDropped}
 use Rattle.effects.proofs.Answered.{access-step, fetch-step}
 
-module _ (s : State) (ws : List ℕ) (g : Guest) where
-  -- REFUSALS: the guest's number, then soundness
+-- JOBS
 
-  pub reset-no-guest : s .settings .guests ≤ g .0 → (record { answer = NoSuchGuest; buffer = [] }, device s ws) ≡ step (device s ws) (reset-of g)
-  reset-no-guest h = sym (no-such-guest (device s ws) (reset-of g) (unfold configOf in le-ltb (g .0) (s .settings .guests) h))
+-- a guest's job on any state and table, by the test that comes before it
+module _ (s : State) (ws : List ℕ) (g : Guest) (r : Checked) (e : r ≡ jobChecked (device s ws) g) where
+  pub job-refused : (j : Job) (a : Refusal) → r ≡ C.Refused a → (record { answer = Refused a; buffer = lentFor j }, device s ws) ≡ step (device s ws) (of-guest g j)
+  job-refused j a f = go (ltb (g .0) (s .settings .guests)) refl (sound (device s ws)) refl (sym f ∙ e)
+    where
+      same : (b : Refusal) → C.Refused a ≡ C.Refused b → (record { answer = Refused a; buffer = lentFor j }, device s ws) ≡ (refusedWith b (of-guest g j), device s ws)
+      same b q = let z : a ≡ b = cc in rw z
 
-  pub request-no-guest : (r b : List ℕ) → s .settings .guests ≤ g .0 → (record { answer = NoSuchGuest; buffer = b }, device s ws) ≡ step (device s ws) (request g r b)
-  request-no-guest r b h = sym (no-such-guest (device s ws) (request g r b) (unfold configOf in le-ltb (g .0) (s .settings .guests) h))
+      go : (t : Bool) → ltb (g .0) (s .settings .guests) ≡ t → (u : Bool) → sound (device s ws) ≡ u → C.Refused a ≡ jobChecked (device s ws) g → (record { answer = Refused a; buffer = lentFor j }, device s ws) ≡ step (device s ws) (of-guest g j)
+      go false t u v q = same NoSuchGuest (q ∙ rw t) ∙ sym (no-such-guest (device s ws) (of-guest g j) (unfold configOf in t))
+      go true t false v q = same Unsound (q ∙ rw (t, v)) ∙ sym (unsound (device s ws) (of-guest g j) (unfold configOf in t) v)
+      go true t true v q = absurd (let z : C.Refused a ≡ Passed = q ∙ rw (t, v) in let y : _≡_ {A = ℕ} 0 1 = cc in omega arith)
 
-  pub fetch-no-guest : (b : List ℕ) → s .settings .guests ≤ g .0 → (record { answer = NoSuchGuest; buffer = b }, device s ws) ≡ step (device s ws) (fetch-for g b)
-  fetch-no-guest b h = sym (no-such-guest (device s ws) (fetch-for g b) (unfold configOf in le-ltb (g .0) (s .settings .guests) h))
+  pub job-passes : r ≡ Passed → (sound (device s ws) ≡ true) × (ltb (g .0) (s .settings .guests) ≡ true)
+  job-passes f = go (ltb (g .0) (s .settings .guests)) refl (sound (device s ws)) refl (sym f ∙ e)
+    where
+      go : (t : Bool) → ltb (g .0) (s .settings .guests) ≡ t → (u : Bool) → sound (device s ws) ≡ u → Passed ≡ jobChecked (device s ws) g → (u ≡ true) × (t ≡ true)
+      go false t u v q = absurd (let z : Passed ≡ C.Refused NoSuchGuest = q ∙ rw t in let y : _≡_ {A = ℕ} 0 1 = cc in omega arith)
+      go true t false v q = absurd (let z : Passed ≡ C.Refused Unsound = q ∙ rw (t, v) in let y : _≡_ {A = ℕ} 0 1 = cc in omega arith)
+      go true t true v q = (refl, refl)
 
-  module _ (h : g .0 < s .settings .guests) where
-    below : ltb (g .0) (s .settings .guests) ≡ true
-    below = lt-ltb (g .0) (s .settings .guests) h
+-- a job on sound state and table
+module _ (s : State) (ws : List ℕ) (g : Guest) (on : sound (device s ws) ≡ true) (below : ltb (g .0) (s .settings .guests) ≡ true) (k : Shaped s) where
+  pub reset-works : (r : State) (vs : List ℕ) → device r vs ≡ resetFlat (device s ws) g → (record { answer = Done; buffer = [] }, device r vs) ≡ step (device s ws) (of-guest g reset)
+  reset-works r vs x = ap (λ (y : Device). (record { answer = Done; buffer = [] }, y)) x ∙ sym (reset-step (device s ws) on k g below)
 
-    module _ (t : Bool) (e : t ≡ sound (device s ws)) (f : not t ≡ true) where
-      off : sound (device s ws) ≡ false
-      off = sym e ∙ not-true t f
-
-      pub reset-unsound : (record { answer = Unsound; buffer = [] }, device s ws) ≡ step (device s ws) (reset-of g)
-      reset-unsound = sym (unsound (device s ws) (reset-of g) (unfold configOf in below) off)
-
-      pub request-unsound : (r b : List ℕ) → (record { answer = Unsound; buffer = b }, device s ws) ≡ step (device s ws) (request g r b)
-      request-unsound r b = sym (unsound (device s ws) (request g r b) (unfold configOf in below) off)
-
-      pub fetch-unsound : (b : List ℕ) → (record { answer = Unsound; buffer = b }, device s ws) ≡ step (device s ws) (fetch-for g b)
-      fetch-unsound b = sym (unsound (device s ws) (fetch-for g b) (unfold configOf in below) off)
-
-    -- WORKED, on sound state and table
-    module _ (t : Bool) (e : t ≡ sound (device s ws)) (f : not t ≡ false) (k : Shaped s) where
-      on : sound (device s ws) ≡ true
-      on = sym e ∙ not-false t f
-
-      pub reset-works : (r : State) (vs : List ℕ) → device r vs ≡ resetFlat (device s ws) g → (record { answer = Done; buffer = [] }, device r vs) ≡ step (device s ws) (reset-of g)
-      reset-works r vs x = ap (λ (y : Device). (record { answer = Done; buffer = [] }, y)) x ∙ sym (reset-step (device s ws) on k g below)
-
-      pub fetch-works : (b c : List ℕ) (n : ℕ) (r : State) → n ≡ fetchCount s g (length b) → c ≡ fetchBytes s g n b → r ≡ faultsDropped s (g .0) n
-          → (record { answer = Fetched n; buffer = c }, device r ws) ≡ step (device s ws) (fetch-for g b)
-      fetch-works b c n r x y z = rw (y, z, x) (sym (fetch-step (device s ws) on k g b below))
-
-      pub serve-ready : (sound (device s ws) ≡ true) × Shaped s × (ltb (g .0) (s .settings .guests) ≡ true)
-      serve-ready = (on, k, below)
+  pub fetch-works : (b c : List ℕ) (n : ℕ) (r : State) → n ≡ fetchCount s g (length b) → c ≡ fetchBytes s g n b → r ≡ faultsDropped s (g .0) n
+      → (record { answer = Fetched n; buffer = c }, device r ws) ≡ step (device s ws) (of-guest g (fetch b))
+  fetch-works b c n r x y z = rw (y, z, x) (sym (fetch-step (device s ws) on k g b below))
 
 -- ACCESSES
 
-module _ (s : State) (ws : List ℕ) (e : Endpoint) (x kind : ℕ) (t : Bool) (i : t ≡ sound (device s ws)) where
-  pub access-unsound : not t ≡ true → (record { answer = Unsound; buffer = [] }, device s ws) ≡ step (device s ws) (access-by e x kind)
-  access-unsound f = sym (unsound (device s ws) (access-by e x kind) refl (sym i ∙ not-true t f))
+module _ (s : State) (ws : List ℕ) (x : Access) (t : Bool) (i : t ≡ sound (device s ws)) where
+  pub access-unsound : not t ≡ true → (record { answer = Refused Unsound; buffer = [] }, device s ws) ≡ step (device s ws) (access-by x)
+  access-unsound f = sym (unsound (device s ws) (access-by x) refl (sym i ∙ not-true t f))
 
-  pub access-works : not t ≡ false → Shaped s → (a : Answer) (r : State) → a ≡ decision (device s ws) e x kind → r ≡ accessed s e x kind a → (record { answer = a; buffer = [] }, device r ws) ≡ step (device s ws) (access-by e x kind)
-  access-works f k a r y z = rw (z, y) (sym (access-step (device s ws) (sym i ∙ not-false t f) k e x kind))
-
--- an access on any state: the answer, no buffer, and the state with what a blocked access logs
-module _ (s : State) (ws : List ℕ) (k : Shaped s) (e : Endpoint) (x kind : ℕ) where
-  whole-from : (p : Reply × Device) (a : Answer) → p ≡ (record { answer = a; buffer = [] }, device (accessed s e x kind a) ws)
-      → p ≡ (record { answer = p .0 .answer; buffer = [] }, device (accessed s e x kind (p .0 .answer)) ws)
-  whole-from p a q = rw q
-
-  pub access-whole : step (device s ws) (access-by e x kind) ≡ (record { answer = step (device s ws) (access-by e x kind) .0 .answer; buffer = [] }, device (accessed s e x kind (step (device s ws) (access-by e x kind) .0 .answer)) ws)
-  unfolding accessed
-  access-whole = go (sound (device s ws)) refl
-    where
-      go : (b : Bool) → sound (device s ws) ≡ b
-          → step (device s ws) (access-by e x kind) ≡ (record { answer = step (device s ws) (access-by e x kind) .0 .answer; buffer = [] }, device (accessed s e x kind (step (device s ws) (access-by e x kind) .0 .answer)) ws)
-      go true h = whole-from (step (device s ws) (access-by e x kind)) (decision (device s ws) e x kind) (access-step (device s ws) h k e x kind)
-      go false h = whole-from (step (device s ws) (access-by e x kind)) Unsound (unsound (device s ws) (access-by e x kind) refl h)
-
-  -- the same of an answer that is known: the entry's returns
-  pub access-given : (a : Answer) (r : State) → a ≡ step (device s ws) (access-by e x kind) .0 .answer → r ≡ accessed s e x kind a → (record { answer = a; buffer = [] }, device r ws) ≡ step (device s ws) (access-by e x kind)
-  access-given a r y z = rw (z, y) (sym access-whole)
+  pub access-works : not t ≡ false → Shaped s → (a : Answer) (r : State) → a ≡ decision (device s ws) x → r ≡ afterAccess s x a → (record { answer = a; buffer = [] }, device r ws) ≡ step (device s ws) (access-by x)
+  access-works f k a r y z = rw (z, y) (sym (access-step (device s ws) (sym i ∙ not-false t f) k x))
 
 -- WHAT SOUND STATE AND TABLE BOUND
 
@@ -160,10 +137,10 @@ module _ (s : State) (ws : List ℕ) (h : sound (device s ws) ≡ true) (k : Sha
         all-guests (configOf s .settings .guests) (λ n r. leb (r .phys + r .end - r .start) 18446744073709551615) (read (device s ws) .records) (whole .guests)
         (λ n l. unfold part in all-imp (recordOk (own (configOf s) (guest n)) (part (configOf s) (guest n) (read (device s ws)) .attachments)) (λ r. leb (r .phys + r .end - r .start) 18446744073709551615) (recordsOf (guest n) (read (device s ws) .records)) (λ r o. form-lands n r (record-form (own (configOf s) (guest n)) (part (configOf s) (guest n) (read (device s ws)) .attachments) r o)) (whole .parts (guest n) l .records))
 
-    pub lands-fit : (x kind key : ℕ) (r : Mapping) → findMapping key x kind (take (s .live) (records ws)) ≡ some r → x - r .start + r .phys ≤ 18446744073709551615
-    lands-fit x kind key r e =
-        let q = found (permits key x kind) (λ y. leb (y .phys + y .end - y .start) 18446744073709551615) (take (s .live) (records ws)) r (unfold findMapping in e) (unfold read in all-land) in
-        let v = permits-covers key x kind r (q .0) in
+    pub lands-fit : (x : Access) (key : ℕ) (r : Mapping) → findMapping key x (take (s .live) (records ws)) ≡ some r → x .address - r .start + r .phys ≤ 18446744073709551615
+    lands-fit x key r e =
+        let q = found (permits key x) (λ y. leb (y .phys + y .end - y .start) 18446744073709551615) (take (s .live) (records ws)) r (unfold findMapping in e) (unfold read in all-land) in
+        let v = permits-covers key x r (q .0) in
         omega (arith, v .from, v .to, leb-true (r .phys + r .end - r .start) 18446744073709551615 (q .1))
 
 -- REQUESTS
@@ -171,22 +148,22 @@ module _ (s : State) (ws : List ℕ) (h : sound (device s ws) ≡ true) (k : Sha
 abbrev pub handled-tags : List ℕ
 handled-tags = 1 ∷ 2 ∷ 3 ∷ 4 ∷ []
 
-asked-tag : (r : List ℕ) (a : Answer) → asked r ≡ Refused a → ⊥
+asked-tag : (r : List ℕ) (a : Refusal) → asked r ≡ Q.Refused a → ⊥
 unfolding asked
 asked-tag r a e = go (eqb (typeOf r) 1) (eqb (typeOf r) 2) (eqb (typeOf r) 3) e
   where
-    go : (t u v : Bool) → cond t (Attach (domainField r) (endpointField r) (attachReserved r)) (cond u (Detach (domainField r) (endpointField r) (attachReserved r)) (cond v (Map (domainField r) (mapFields r)) (Unmap (domainField r) (unmapFields r)))) ≡ Refused a → ⊥
+    go : (t u v : Bool) → cond t (Attach (domainField r) (endpointField r) (attachReserved r)) (cond u (Detach (domainField r) (endpointField r) (attachReserved r)) (cond v (Map (domainField r) (mapFields r)) (Unmap (domainField r) (unmapFields r)))) ≡ Q.Refused a → ⊥
     go true u v x = let z : _≡_ {A = ℕ} 0 1 = cc in omega arith
     go false true v x = let z : _≡_ {A = ℕ} 0 1 = cc in omega arith
     go false false true x = let z : _≡_ {A = ℕ} 0 1 = cc in omega arith
     go false false false x = let z : _≡_ {A = ℕ} 0 1 = cc in omega arith
 
 -- a request parsed as refused has a failing step, and one that is not has none
-pub parsed-refused : (q : Request) (r : List ℕ) (n : ℕ) (a : Answer) → q ≡ parsed r n → q ≡ Refused a → firstFailing (requestRefusals r n) ≡ some a
+pub parsed-refused : (q : Request) (r : List ℕ) (n : ℕ) (a : Refusal) → q ≡ parsed r n → q ≡ Q.Refused a → firstFailing (requestRefusals r n) ≡ some a
 unfolding parsed
 parsed-refused q r n a e f = go (firstFailing (requestRefusals r n)) (sym e ∙ f)
   where
-    go : (m : Option Answer) → unless m (asked r) ≡ Refused a → m ≡ some a
+    go : (m : Option Refusal) → unless m (asked r) ≡ Q.Refused a → m ≡ some a
     go none x = unfold unless in absurd (asked-tag r a x)
     go (some b) x = unfold unless in cc
 
@@ -194,7 +171,7 @@ pub parsed-handled : (q : Request) (r : List ℕ) (n : ℕ) → q ≡ parsed r n
 unfolding parsed
 parsed-handled q r n e h = go (firstFailing (requestRefusals r n)) refl e
   where
-    go : (m : Option Answer) → firstFailing (requestRefusals r n) ≡ m → q ≡ unless m (asked r) → (firstFailing (requestRefusals r n) ≡ none) × (q ≡ asked r)
+    go : (m : Option Refusal) → firstFailing (requestRefusals r n) ≡ m → q ≡ unless m (asked r) → (firstFailing (requestRefusals r n) ≡ none) × (q ≡ asked r)
     go none x y = unfold unless in (x, y)
     go (some a) x y = unfold unless in absurd (miss handled-tags 0 tt (subst (λ (z : Request). OneOf handled-tags (tagOf request-type.the-type z)) y h))
 
@@ -206,14 +183,14 @@ four-bytes r n e =
     eqb-true n (writableLength (typeOf r)) (not-false _ (c .1 .1 .1 .0)) ∙ rw known
 
 module _ (s : State) (ws : List ℕ) (g : Guest) (ready : (sound (device s ws) ≡ true) × Shaped s × (ltb (g .0) (s .settings .guests) ≡ true)) (q : Request) (r b : List ℕ) (e : q ≡ parsed r (length b)) where
-  pub serve-refused : (a : Answer) → q ≡ Refused a → (record { answer = a; buffer = b }, device s ws) ≡ step (device s ws) (request g r b)
+  pub serve-refused : (a : Refusal) → q ≡ Q.Refused a → (record { answer = Refused a; buffer = b }, device s ws) ≡ step (device s ws) (of-guest g (request r b))
   serve-refused a f = sym (refused-step (device s ws) (ready .0) (ready .1) g (ready .2) r b a (parsed-refused q r (length b) a e f))
 
   pub serve-works : (st : ℕ) (t : State) (vs c : List ℕ) → OneOf handled-tags (tagOf request-type.the-type q) → worked st (device t vs) ≡ handled (device s ws) g q → c ≡ cond (eqb (length b) 4) (st ∷ 0 ∷ 0 ∷ 0 ∷ []) b
-      → (record { answer = Served; buffer = c }, device t vs) ≡ step (device s ws) (request g r b)
+      → (record { answer = Served 4; buffer = c }, device t vs) ≡ step (device s ws) (of-guest g (request r b))
   serve-works st t vs c h x y =
       let p = parsed-handled q r (length b) e h in
       let four = four-bytes r (length b) (p .0) in
       let done : worked st (device t vs) ≡ handled (device s ws) g (asked r) = x ∙ ap (λ (z : Request). handled (device s ws) g z) (p .1) in
-      (rw (y, four) (ap (λ (z : Worked). (record { answer = Served; buffer = z .status ∷ 0 ∷ 0 ∷ 0 ∷ [] }, z .left)) done))
+      (rw (y, four) (ap (λ (z : Worked). (record { answer = Served 4; buffer = z .status ∷ 0 ∷ 0 ∷ 0 ∷ [] }, z .left)) done))
       ∙ sym (served-step (device s ws) (ready .0) (ready .1) g (ready .2) r b (p .0))

@@ -12,7 +12,8 @@ use Rattle.laws.specs.Lists.{tab, pad}
 use Rattle.laws.proofs.Tables.{length-tab, getD-tab, replicate-is}
 use Rattle.rules.specs.declared.Settings.{Settings}
 use Rattle.rules.specs.declared.State.{State}
-use Rattle.rules.specs.declared.Answer.the-variants.{Done, Unsound, BadConfiguration}
+use Rattle.rules.specs.declared.Answer.the-variants.{Done, Refused}
+use Rattle.rules.specs.declared.Refusal.the-variants.{Unsound, BadConfiguration}
 use Rattle.rules.specs.Sizes.{maxGuests, maxEndpoints, maxFaults, faultPlaces, tableWords}
 use Rattle.rules.specs.Configuration.{goodSettings, goodLists, good}
 use Rattle.rules.specs.State.{Attachment, Log, noFault, noLog, flagOf, numberOf, trimmed, stateOf, start, zeroState}
@@ -124,12 +125,12 @@ module _ (s : Settings) (es os : List ℕ) where
   good-both n a b e f = rw (e, f, take-length es) (ap (λ (l : List ℕ). goodSettings s && goodLists s es l) (ap (λ k. take k os) n ∙ take-length os))
 
   module _ (ws : List ℕ) where
-    pub set-up-length : (z : State) → (length ws ≡ tableWords → ⊥) → z ≡ zeroState → record { answer = Unsound; device = device z ws } ≡ setUp (configured s es os) ws
+    pub set-up-length : (z : State) → (length ws ≡ tableWords → ⊥) → z ≡ zeroState → record { answer = Refused Unsound; device = device z ws } ≡ setUp (configured s es os) ws
     unfolding setUp
     set-up-length z n e = rw (ne-eqb (length ws) tableWords n, e)
 
     module _ (n : length ws ≡ tableWords) (b : Bool) (f : b ≡ good (configured s es os)) where
-      pub set-up-bad : (z : State) → not b ≡ true → z ≡ zeroState → record { answer = BadConfiguration; device = device z ws } ≡ setUp (configured s es os) ws
+      pub set-up-bad : (z : State) → not b ≡ true → z ≡ zeroState → record { answer = Refused BadConfiguration; device = device z ws } ≡ setUp (configured s es os) ws
       unfolding setUp
       set-up-bad z t e = rw (eq-eqb (length ws) tableWords n, sym f, t, e)
 

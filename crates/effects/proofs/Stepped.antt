@@ -10,16 +10,17 @@ use borrow.Author.Tests.{ltb-true}
 use Rattle.laws.specs.Lists.{firstFailing, tab}
 use Rattle.rules.specs.declared.Guest.{Guest}
 use Rattle.rules.specs.declared.State.{State}
-use Rattle.rules.specs.declared.Answer.{Answer}
-use Rattle.rules.specs.declared.Answer.the-variants.{Done, Served, NoSuchGuest, Unsound}
+use Rattle.rules.specs.declared.Answer.the-variants.{Done, Served, Refused}
+use Rattle.rules.specs.declared.Refusal.{Refusal}
+use Rattle.rules.specs.declared.Refusal.the-variants.{NoSuchGuest, Unsound}
 use Rattle.rules.specs.Configuration.{Config}
 use Rattle.rules.specs.State.{World, Device, configOf, read, write}
 use Rattle.rules.specs.Guests.{Own, Part, own, part, replace}
 use Rattle.rules.specs.Requests.{ATTACH, DETACH, MAP, requestRefusals, typeOf, domainField, endpointField, attachReserved, virtStart, virtEnd, unmapReserved}
 use Rattle.rules.specs.Handlers.{handleAttach, handleDetach, handleMap, handleUnmap, askedFor, handle}
-use Rattle.rules.specs.Access.{reset}
+use Rattle.rules.specs.Access.{afterReset}
 use Rattle.rules.specs.Sound.{sound}
-use Rattle.rules.specs.Device.{Call, request, reset-of, refused, requested, rule, caller, numbered, work, step}
+use Rattle.rules.specs.Device.{request, reset, Call, of-guest, refusedWith, requested, jobRule, rule, caller, numbered, work, step}
 use Rattle.rules.specs.Device as rules
 use Rattle.rules.proofs.Worlds.{Whole}
 use Rattle.rules.proofs.Writing.{kept}
@@ -35,15 +36,15 @@ use Rattle.effects.proofs.Requested.{attach-written, detach-written, ma
 
 -- REFUSALS
 
-pub no-such-guest : (d : Device) (x : Call) → numbered (configOf (d .state)) x ≡ false → step d x ≡ (refused NoSuchGuest x, d)
+pub no-such-guest : (d : Device) (x : Call) → numbered (configOf (d .state)) x ≡ false → step d x ≡ (refusedWith NoSuchGuest x, d)
 unfolding step
 no-such-guest d x n = rw n
 
-pub unsound : (d : Device) (x : Call) → numbered (configOf (d .state)) x ≡ true → sound d ≡ false → step d x ≡ (refused Unsound x, d)
+pub unsound : (d : Device) (x : Call) → numbered (configOf (d .state)) x ≡ true → sound d ≡ false → step d x ≡ (refusedWith Unsound x, d)
 unfolding step
 unsound d x n s = rw (n, s)
 
-pub sound-step : (d : Device) (x : Call) → numbered (configOf (d .state)) x ≡ true → sound d ≡ true → step d x ≡ rules.worked d (caller (configOf (d .state)) x) x
+pub sound-step : (d : Device) (x : Call) → numbered (configOf (d .state)) x ≡ true → sound d ≡ true → step d x ≡ rules.performed d (caller (configOf (d .state)) x) x
 unfolding step
 sound-step d x n s = rw (n, s)
 
@@ -66,10 +67,10 @@ module _ (d : Device) (h : sound d ≡ true) (k : Shaped (d .state)) where
 
   -- RESET
 
-  pub reset-step : (g : Guest) → ltb (g .0) (d .state .settings .guests) ≡ true → step d (reset-of g) ≡ (record { answer = Done; buffer = [] }, resetFlat d g)
+  pub reset-step : (g : Guest) → ltb (g .0) (d .state .settings .guests) ≡ true → step d (of-guest g reset) ≡ (record { answer = Done; buffer = [] }, resetFlat d g)
   reset-step g l =
-      sound-step d (reset-of g) (unfold configOf in l) h
-      ∙ unfold caller rules.worked work rule in
+      sound-step d (of-guest g reset) (unfold configOf in l) h
+      ∙ unfold caller rules.performed work rule jobRule in
       ap (λ (e : Device). (record { answer = Done; buffer = [] }, e)) (sym (ap (λ (e : Device). resetFlat e g) written ∙ reset-written (configOf (d .state)) kept-is (read d) whole g (unfold configOf in ltb-true (g .0) (d .state .settings .guests) l)))
 
   -- REQUESTS
@@ -103,14 +104,14 @@ module _ (d : Device) (h : sound d ≡ true) (k : Shaped (d .state)) where
         go false false false = unfold handled in unmap-written (configOf (d .state)) kept-is (read d) whole g m (domainField r) (virtStart r) (virtEnd r) (unmapReserved r)
 
     -- a request that is refused, and one that is worked
-    pub refused-step : (r b : List ℕ) (a : Answer) → firstFailing (requestRefusals r (length b)) ≡ some a → step d (request g r b) ≡ (record { answer = a; buffer = b }, d)
+    pub refused-step : (r b : List ℕ) (a : Refusal) → firstFailing (requestRefusals r (length b)) ≡ some a → step d (of-guest g (request r b)) ≡ (record { answer = Refused a; buffer = b }, d)
     refused-step r b a f =
-        sound-step d (request g r b) (unfold configOf in l) h
-        ∙ unfold caller rules.worked work rule requested in
-        rw f (ap (λ (e : Device). (record { answer = a; buffer = b }, e)) (sym (written ∙ ap (λ (v : World). write (configOf (d .state)) v) (sym (replace-same (configOf (d .state)) (read d) whole g)))))
+        sound-step d (of-guest g (request r b)) (unfold configOf in l) h
+        ∙ unfold caller rules.performed work rule jobRule requested in
+        rw f (ap (λ (e : Device). (record { answer = Refused a; buffer = b }, e)) (sym (written ∙ ap (λ (v : World). write (configOf (d .state)) v) (sym (replace-same (configOf (d .state)) (read d) whole g)))))
 
-    pub served-step : (r b : List ℕ) → firstFailing (requestRefusals r (length b)) ≡ none → step d (request g r b) ≡ (record { answer = Served; buffer = handled d g (asked r) .status ∷ 0 ∷ 0 ∷ 0 ∷ [] }, handled d g (asked r) .left)
+    pub served-step : (r b : List ℕ) → firstFailing (requestRefusals r (length b)) ≡ none → step d (of-guest g (request r b)) ≡ (record { answer = Served 4; buffer = handled d g (asked r) .status ∷ 0 ∷ 0 ∷ 0 ∷ [] }, handled d g (asked r) .left)
     served-step r b f =
-        sound-step d (request g r b) (unfold configOf in l) h
-        ∙ unfold caller rules.worked work rule requested in
-        rw f (ap (λ (x : Worked). (record { answer = Served; buffer = x .status ∷ 0 ∷ 0 ∷ 0 ∷ [] }, x .left)) (sym (handle-step r)))
+        sound-step d (of-guest g (request r b)) (unfold configOf in l) h
+        ∙ unfold caller rules.performed work rule jobRule requested in
+        rw f (ap (λ (x : Worked). (record { answer = Served 4; buffer = x .status ∷ 0 ∷ 0 ∷ 0 ∷ [] }, x .left)) (sym (handle-step r)))

@@ -16,7 +16,10 @@ use Rattle.rules.specs.declared.State.{State}
 use Rattle.rules.specs.declared.Mapping.{Mapping}
 use Rattle.rules.specs.declared.Fault.{Fault}
 use Rattle.rules.specs.declared.Answer.{Answer}
-use Rattle.rules.specs.declared.Answer.the-variants.{Done, Served, Through, Fetched, NoSuchGuest, Unsound, UnknownType, WrongLength, BadConfiguration, UnknownEndpoint, Unattached, Unmapped}
+use Rattle.rules.specs.declared.Answer.the-variants.{Done, Served, Through, Fetched, Refused, Blocked}
+use Rattle.rules.specs.declared.Refusal.the-variants.{UnknownEndpoint}
+use Rattle.rules.specs.declared.Cause.the-variants.{Unattached, Unmapped}
+use Rattle.rules.specs.declared.Access.{Access}
 use Rattle.rules.specs.Configuration.{share, windowFirst, windowLast}
 use Rattle.rules.specs.Table.{keyOf, records, overlap}
 use Rattle.rules.specs.State.{Device, faultAt}
@@ -158,42 +161,29 @@ resetFlat d g = removed (device (guestCleared (d .state) (g .0)) (d .table)) (g 
 
 -- ACCESS
 
--- what a lookup's outcome answers for an access of address x
-unfoldable pub answerOf : ℕ → Option Mapping → Answer
-answerOf x none = Unmapped
-answerOf x (some r) = Through (x - r .start + r .phys)
+-- what a lookup's outcome answers for an access
+unfoldable pub answerOf : Access → Option Mapping → Answer
+answerOf a none = Blocked Unmapped
+answerOf a (some r) = Through (a .address - r .start + r .phys)
 
--- the answer of an access, from what it reads alone; nothing is changed by it
-unfoldable pub decided : ℕ → List ℕ → List ℕ → List ℕ → List ℕ → List Mapping → Endpoint → ℕ → ℕ → Answer
-decided n endpoints owners attached domains live e x k =
-    cond (ltb (indexOf (e .0) (take n endpoints)) n)
-    (cond (eqb (getD attached (indexOf (e .0) (take n endpoints)) 0) 1)
-    (answerOf x (findMapping (getD owners (indexOf (e .0) (take n endpoints)) 0 * domainSpan + getD domains (indexOf (e .0) (take n endpoints)) 0) x k live))
-    Unattached)
-    UnknownEndpoint
+-- the answer of an access by the endpoint at place i, of which n are listed
+unfoldable pub decisionAt : ℕ → ℕ → List ℕ → List ℕ → List ℕ → List Mapping → Access → Answer
+decisionAt i n owners attached domains live a =
+    cond (not (ltb i n)) (Refused UnknownEndpoint)
+    (cond (not (eqb (getD attached i 0) 1)) (Blocked Unattached)
+    (answerOf a (findMapping (keyOf (record { 0 = getD owners i 0 }) (record { 0 = getD domains i 0 })) a live)))
 
-abbrev pub decision : Device → Endpoint → ℕ → ℕ → Answer
-decision d e x k = decided (d .state .listed) (d .state .endpoints) (d .state .owners) (d .state .attached) (d .state .domains) (liveRecords d) e x k
+abbrev pub decision : Device → Access → Answer
+decision d a = decisionAt (placeOfEndpoint (d .state) (a .endpoint)) (d .state .listed) (d .state .owners) (d .state .attached) (d .state .domains) (liveRecords d) a
 
--- the reason that a blocked access is logged with: 1 domain, 2 mapping; 0 where none is
-abbrev pub reasonOf : Answer → ℕ
-reasonOf Done = 0
-reasonOf Served = 0
-reasonOf (Through a) = 0
-reasonOf (Fetched n) = 0
-reasonOf NoSuchGuest = 0
-reasonOf Unsound = 0
-reasonOf UnknownType = 0
-reasonOf WrongLength = 0
-reasonOf BadConfiguration = 0
-reasonOf UnknownEndpoint = 0
-reasonOf Unattached = 1
-reasonOf Unmapped = 2
-
--- the state after an access: a blocked one logs a fault for the endpoint's owner
-unfoldable pub accessed : State → Endpoint → ℕ → ℕ → Answer → State
-accessed s e x k a =
-    cond (eqb (reasonOf a) 0) s (faultLogged s (getD (s .owners) (placeOfEndpoint s e) 0) (faultOf (reasonOf a) e x k))
+-- the state after an access with this answer: a blocked one logs a fault for the endpoint's owner
+unfoldable pub afterAccess : State → Access → Answer → State
+afterAccess s a Done = s
+afterAccess s a (Served n) = s
+afterAccess s a (Through x) = s
+afterAccess s a (Fetched n) = s
+afterAccess s a (Refused e) = s
+afterAccess s a (Blocked c) = faultLogged s (getD (s .owners) (placeOfEndpoint s (a .endpoint)) 0) (faultOf c a)
 
 -- FETCH
 

@@ -1,5 +1,6 @@
 pub mod Flat
 pub mod Outcome
 pub mod Serve
-pub mod Checked
+pub mod Replied
+pub mod Checks
 pub mod Setting

@@ -1,5 +1,6 @@
 // What a call does on the by-value state and the lent words, and what it gives back. There is no function here.
 use rules::Answer;
+use rules::Refusal;
 use rules::State;
 
 // What a call gives back: its answer, and the next state.
@@ -12,4 +13,10 @@ pub struct Given {
 pub struct Handled {
     pub status: u8,
     pub state: State,
+}
+
+// What the test before a guest's job gives: the job may be worked, or is refused.
+pub enum Checked {
+    Passed,
+    Refused(Refusal),
 }

@@ -4,7 +4,7 @@ mod putting;
 ghost use mathlib.Core.Path.{_≡_};
 ghost use Rattle.rules.specs.Device.{step, fetch-for};
 ghost use Rattle.effects.specs.Flat.{device};
-ghost use Rattle.effects.specs.Checked.{replied};
+ghost use Rattle.effects.specs.Replied.{replied};
 use effects::Given;
 use rules::Answer;
 use rules::Guest;

@@ -8,7 +8,7 @@ use native.Mathlib.Omega.{arith}
 use lib.Dec.{eqb}
 use lib.ListN.{length}
 use borrow.Author.Tests.{le-ltb, le-leb}
-use Rattle.rules.specs.declared.Answer.the-variants.{WrongLength}
+use Rattle.rules.specs.declared.Refusal.the-variants.{WrongLength}
 use Rattle.rules.specs.Requests.{readableLength, writableLength, typeOf}
 use Rattle.layouts.specs.declared.request.Request.the-variants.{Refused}
 use Rattle.layouts.specs.Parsed.{Whole, asked, unless, parsed}

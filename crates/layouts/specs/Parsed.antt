@@ -7,7 +7,7 @@ use mathlib.Core.Option.{Option, some, none}
 use lib.Dec.{eqb}
 use lib.ListN.{length}
 use Rattle.laws.specs.Lists.{firstFailing}
-use Rattle.rules.specs.declared.Answer.{Answer}
+use Rattle.rules.specs.declared.Refusal.{Refusal}
 use Rattle.rules.specs.Requests.{ATTACH, DETACH, MAP, UNMAP, readableLength, typeOf, domainField, endpointField, attachReserved, virtStart, virtEnd, physStart, mapFlags, unmapReserved, requestRefusals}
 use Rattle.layouts.specs.declared.request.MapFields.{MapFields}
 use Rattle.layouts.specs.declared.request.UnmapFields.{UnmapFields}
@@ -31,7 +31,7 @@ asked r =
     (Unmap (domainField r) (unmapFields r))))
 
 -- a refusal, or what is asked where there is none
-unfoldable pub unless : Option Answer → Request → Request
+unfoldable pub unless : Option Refusal → Request → Request
 unless none x = x
 unless (some a) x = Refused a
 

@@ -1,7 +1,7 @@
 // A request taken apart.
-use rules::Answer;
 use rules::Domain;
 use rules::Endpoint;
+use rules::Refusal;
 use rules::requests::ATTACH;
 use rules::requests::DETACH;
 use rules::requests::MAP;
@@ -29,9 +29,9 @@ pub struct UnmapFields {
     pub reserved: u64,
 }
 
-// A request: refused with an answer, or its fields.
+// A request: refused, or its fields.
 pub enum Request {
-    Refused(Answer),
+    Refused(Refusal),
     // The third field is the reserved one.
     Attach(Domain, Endpoint, u64),
     Detach(Domain, Endpoint, u64),
@@ -123,7 +123,7 @@ pub fn parse(readable: &[u8], writable: usize) -> Request
     ensures { λ r. ⌜ r ≡ parsed (now (readable .entry)) writable ⌝ }
 {
     if readable.len() < 4 {
-        return Request::Refused(Answer::WrongLength);
+        return Request::Refused(Refusal::WrongLength);
     }
     let kind = readable[0];
     match kind {
@@ -133,9 +133,9 @@ pub fn parse(readable: &[u8], writable: usize) -> Request
             if (readable.len() == readable_length) & (writable == writable_length) {
                 taken_apart(readable, kind)
             } else {
-                Request::Refused(Answer::WrongLength)
+                Request::Refused(Refusal::WrongLength)
             }
         }
-        0 | 5..=255 => Request::Refused(Answer::UnknownType),
+        0 | 5..=255 => Request::Refused(Refusal::UnknownType),
     }
 }

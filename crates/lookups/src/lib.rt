@@ -4,6 +4,7 @@ ghost use lib.ListN.{take};
 ghost use Rattle.rules.specs.Table.{records};
 ghost use Rattle.rules.specs.Access as access;
 ghost use Rattle.lookups.specs.Outcomes.{foundOf};
+use rules::Access;
 use rules::Mapping;
 use table::bounded;
 use table::get;
@@ -27,21 +28,22 @@ fn has_flag(kind: u8, flags: u64) -> bool
     }
 }
 
-// Whether r lets an access of this kind through at the address.
-fn permits(r: Mapping, key: u64, address: u64, kind: u8) -> bool
-    ensures { λ b. ⌜ b ≡ access.permits key address kind r ⌝ }
+// Whether r lets an access through that is made in the key's domain.
+fn permits(r: Mapping, key: u64, a: Access) -> bool
+    ensures { λ b. ⌜ b ≡ access.permits key a r ⌝ }
 {
-    (r.key == key) & (((r.start <= address) & (address <= r.end)) & has_flag(kind, r.flags))
+    (r.key == key)
+        & (((r.start <= a.address) & (a.address <= r.end)) & has_flag(a.kind, r.flags))
 }
 
-// The first of the first live records that lets an access of this kind through at the address.
-pub fn find_mapping(t: &[u64], live: usize, key: u64, address: u64, kind: u8) -> Found
-    ensures { λ r. ⌜ r ≡ foundOf (access.findMapping key address kind (take live (records (now (t .entry))))) ⌝ }
+// The first of the first live records that lets an access through that is made in the key's domain.
+pub fn find_mapping(t: &[u64], live: usize, key: u64, a: Access) -> Found
+    ensures { λ r. ⌜ r ≡ foundOf (access.findMapping key a (take live (records (now (t .entry))))) ⌝ }
 {
     let n = bounded(t, live);
     for i in 0..n {
         let r = get(t, i);
-        if permits(r, key, address, kind) {
+        if permits(r, key, a) {
             return Found::At(r);
         }
     }

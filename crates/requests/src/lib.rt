@@ -12,7 +12,7 @@ ghost use Rattle.effects.specs.Flat.{device};
 ghost use Rattle.effects.specs.Outcome.{outcome};
 ghost use Rattle.effects.specs.Serve.{handled};
 ghost use Rattle.state.specs.Pieces.{Shaped};
-ghost use Rattle.effects.specs.Checked.{replied};
+ghost use Rattle.effects.specs.Replied.{replied};
 use effects::Given;
 use effects::Handled;
 use layouts::request::Request;

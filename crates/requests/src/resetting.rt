@@ -3,7 +3,7 @@ ghost use mathlib.Core.Path.{_≡_};
 ghost use mathlib.Core.List.{[]};
 ghost use Rattle.rules.specs.Device.{step, reset-of};
 ghost use Rattle.effects.specs.Flat.{device};
-ghost use Rattle.effects.specs.Checked.{replied};
+ghost use Rattle.effects.specs.Replied.{replied};
 use effects::Given;
 use rules::Answer;
 use rules::Guest;

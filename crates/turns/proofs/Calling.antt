@@ -8,7 +8,7 @@ use borrow.Author.Tests.{le-leb, not-true, not-false}
 use Rattle.rules.specs.State.{Device}
 use Rattle.rules.specs.Device.{Reply, SetUp}
 use Rattle.effects.specs.declared.Given.{Given}
-use Rattle.effects.specs.Checked.{replied}
+use Rattle.effects.specs.Replied.{replied}
 use Rattle.printing.specs.Placing.{written, writtenCount}
 use Rattle.items.specs.Items.{sizeOf}
 use Rattle.playing.specs.declared.player.Player.{Player}

@@ -13,7 +13,7 @@ use Rattle.rules.specs.State.{Device, configOf}
 use Rattle.rules.specs.Answers.{fetchedCount}
 use Rattle.rules.specs.Sound.{sound}
 use Rattle.effects.specs.declared.Given.{Given}
-use Rattle.effects.specs.Checked.{replied}
+use Rattle.effects.specs.Replied.{replied}
 use Rattle.fetch_lines.specs.Lines.{fetchFits}
 use Rattle.rules.specs.Device.{Reply, step, worked, work, rule, caller, numbered, fetch-for}
 

@@ -17,11 +17,11 @@ use Rattle.lookups.proofs.find_mapping.Statement.{statement}
 use Rattle.lookups.proofs.find_mapping.Tie as tie
 
 abbrev Inv-loop : tie.InvT-loop
-Inv-loop t live key address kind n i₀ i =
-    (i ≤ n) × (find (permits key address kind) (take live (records t)) ≡ find (permits key address kind) (drop i (take live (records t))))
+Inv-loop t live key x n i₀ i =
+    (i ≤ n) × (find (permits key x) (take live (records t)) ≡ find (permits key x) (drop i (take live (records t))))
 
 abbrev μ-loop : tie.MeasureT-loop
-μ-loop t live key address kind n i₀ i = n - i
+μ-loop t live key x n i₀ i = n - i
 
 returns : tie.Need-returns Inv-loop μ-loop
 unfolding findMapping foundOf
@@ -29,17 +29,17 @@ returns c =
     let s = c .before .before .before .before in
     let a = s .before .before .before .args in
     let R = records (a .t .now) in
-    let e = sym (c .before .permits .ensures ∙ ap (permits (a .key) (a .address) (a .kind)) (c .before .before .get .ensures)) in
-    let f : find (permits (a .key) (a .address) (a .kind)) (take (a .live) R) ≡ some (getD R (s .loop .i) noMapping) =
-    s .loop .inv .1 ∙ find-yes (permits (a .key) (a .address) (a .kind)) noMapping R (a .live) (s .loop .i) (omega arith) (e ∙ c .if1 .taken) in
+    let e = sym (c .before .permits .ensures ∙ ap (permits (a .key) (a .a)) (c .before .before .get .ensures)) in
+    let f : find (permits (a .key) (a .a)) (take (a .live) R) ≡ some (getD R (s .loop .i) noMapping) =
+    s .loop .inv .1 ∙ find-yes (permits (a .key) (a .a)) noMapping R (a .live) (s .loop .i) (omega arith) (e ∙ c .if1 .taken) in
     ap At (c .before .before .get .ensures) ∙ sym (ap foundOf f)
 
 loop-again : tie.Need-loop-again Inv-loop μ-loop
 loop-again c =
     let s = c .before .before .before .before in
     let a = s .before .before .before .args in
-    let e = sym (c .before .permits .ensures ∙ ap (permits (a .key) (a .address) (a .kind)) (c .before .before .get .ensures)) in
-    (omega arith, s .loop .inv .1 ∙ find-no (permits (a .key) (a .address) (a .kind)) noMapping (records (a .t .now)) (a .live) (s .loop .i) (omega arith) (e ∙ c .if1 .left))
+    let e = sym (c .before .permits .ensures ∙ ap (permits (a .key) (a .a)) (c .before .before .get .ensures)) in
+    (omega arith, s .loop .inv .1 ∙ find-no (permits (a .key) (a .a)) noMapping (records (a .t .now)) (a .live) (s .loop .i) (omega arith) (e ∙ c .if1 .left))
 
 returns-2 : tie.Need-returns-2 Inv-loop μ-loop
 unfolding findMapping foundOf
@@ -47,7 +47,7 @@ returns-2 c =
     let s = c .before in
     let a = s .before .before .before .args in
     let R = records (a .t .now) in
-    let f : find (permits (a .key) (a .address) (a .kind)) (take (a .live) R) ≡ none = s .loop .inv .1 ∙ rw (gone R (a .live) (s .loop .i) (omega arith)) in
+    let f : find (permits (a .key) (a .a)) (take (a .live) R) ≡ none = s .loop .inv .1 ∙ rw (gone R (a .live) (s .loop .i) (omega arith)) in
     sym (ap foundOf f)
 
 pub find-mapping-spec : {M : Type 1} → statement M
