@@ -1,10 +1,12 @@
 // The fault that a blocked access logs.
 ghost use mathlib.Core.Path.{_≡_};
+ghost use Prim.Native.Nat.{_+_};
 ghost use lib.ListN.{getD};
-ghost use Rattle.rules.specs.Access.{faultOf};
-ghost use Rattle.effects.specs.Flat.{reasonOf, accessed};
-use rules::Answer;
-use rules::Endpoint;
+ghost use Rattle.rules.specs.declared.Answer.the-variants.{Blocked};
+ghost use Rattle.rules.specs.Access.{flagFor, reasonOf, faultOf};
+ghost use Rattle.effects.specs.Flat.{afterAccess};
+use rules::Access;
+use rules::Cause;
 use rules::Fault;
 use rules::Guest;
 use rules::State;
@@ -15,27 +17,35 @@ const READ_FLAGS: u32 = 257;
 // The flags of a write's fault, WRITE 2 and ADDRESS 256.
 const WRITE_FLAGS: u32 = 258;
 
-// The reason that a blocked access is logged with, 0 where none is.
-pub(crate) fn reason_of(a: Answer) -> u8
-    ensures { λ r. ⌜ r ≡ reasonOf a ⌝ }
+// The reason that a fault of this cause is logged with.
+fn reason_of(cause: Cause) -> u8
+    ensures { λ r. ⌜ r ≡ reasonOf cause ⌝ }
 {
-    match a {
-        Answer::Unattached => 1,
-        Answer::Unmapped => 2,
-        _ => 0,
+    match cause {
+        Cause::Unattached => 1,
+        Cause::Unmapped => 2,
     }
 }
 
-// The fault of a blocked access.
-fn fault_of(reason: u8, e: Endpoint, address: u64, kind: u8) -> Fault
-    ensures { λ r. ⌜ r ≡ faultOf reason e address kind ⌝ }
+// The flags of an access's fault, by its kind.
+fn flags_of(kind: u8) -> u32
+    ensures { λ r. ⌜ r ≡ flagFor kind + 256 ⌝ }
 {
-    let flags: u32 = if kind == 0 { READ_FLAGS } else { WRITE_FLAGS };
+    if kind == 0 { READ_FLAGS } else { WRITE_FLAGS }
+}
+
+// The fault of a blocked access.
+fn fault_of(cause: Cause, a: Access) -> Fault
+    ensures { λ r. ⌜ r ≡ faultOf cause a ⌝ }
+{
+    let reason = reason_of(cause);
+    let flags = flags_of(a.kind);
+    let endpoint = a.endpoint;
     Fault {
-        reason: reason,
-        flags: flags,
-        endpoint: e,
-        address: address,
+        reason,
+        flags,
+        endpoint,
+        address: a.address,
     }
 }
 
@@ -46,15 +56,11 @@ fn owner_at(owners: &[u8], i: usize) -> u8
     if i < owners.len() { owners[i] } else { 0 }
 }
 
-// The state after an access with this answer: a blocked one logs a fault for the endpoint's owner.
-pub fn log_blocked(s: State, e: Endpoint, address: u64, kind: u8, a: Answer) -> State
-    ensures { λ r. ⌜ r ≡ accessed s e address kind a ⌝ }
+// The state with the fault of a blocked access logged for its endpoint's owner.
+pub(crate) fn log_blocked(s: State, a: Access, cause: Cause) -> State
+    ensures { λ r. ⌜ r ≡ afterAccess s a (Blocked cause) ⌝ }
 {
-    let reason = reason_of(a);
-    if reason == 0 {
-        return s;
-    }
-    let i = attachments::place_of(s.listed, &s.endpoints, e);
+    let i = attachments::place_of(s.listed, &s.endpoints, a.endpoint);
     let owner = owner_at(&s.owners, i);
-    logging::log_fault(s, Guest(owner), fault_of(reason, e, address, kind))
+    logging::log_fault(s, Guest(owner), fault_of(cause, a))
 }

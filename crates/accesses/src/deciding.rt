@@ -7,23 +7,26 @@ ghost use Rattle.rules.specs.Sizes.{maxEndpoints};
 ghost use Rattle.rules.specs.declared.Mapping.{Mapping};
 ghost use Rattle.rules.specs.Table.{records};
 ghost use Rattle.rules.specs.Access.{findMapping};
-ghost use Rattle.effects.specs.Flat.{answerOf, decided};
+ghost use Rattle.attachments.specs.Search.{indexOf};
+ghost use Rattle.effects.specs.Flat.{answerOf, decisionAt};
 use lookups::Found;
 use moves::key_of;
+use rules::Access;
 use rules::Answer;
+use rules::Cause;
 use rules::Domain;
-use rules::Endpoint;
 use rules::Guest;
+use rules::Refusal;
 use rules::sizes::MAX_ENDPOINTS;
 
-// The answer of an access of this kind under a domain's key.
-fn translate(t: &[u64], live: usize, key: u64, address: u64, kind: u8) -> Answer
-    requires { ⌜ ((r : Mapping) → findMapping key address kind (take live (records (now t))) ≡ some r → address - r .start + r .phys ≤ 18446744073709551615) ⌝ }
-    ensures { λ r. ⌜ r ≡ answerOf address (findMapping key address kind (take live (records (now (t .entry))))) ⌝ }
+// The answer of an access under a domain's key.
+fn translate(t: &[u64], live: usize, key: u64, a: Access) -> Answer
+    requires { ⌜ ((r : Mapping) → findMapping key a (take live (records (now t))) ≡ some r → a .address - r .start + r .phys ≤ 18446744073709551615) ⌝ }
+    ensures { λ r. ⌜ r ≡ answerOf a (findMapping key a (take live (records (now (t .entry))))) ⌝ }
 {
-    match lookups::find_mapping(t, live, key, address, kind) {
-        Found::At(r) => Answer::Through(address - r.start + r.phys),
-        Found::Nothing => Answer::Unmapped,
+    match lookups::find_mapping(t, live, key, a) {
+        Found::At(r) => Answer::Through(a.address - r.start + r.phys),
+        Found::Nothing => Answer::Blocked(Cause::Unmapped),
     }
 }
 
@@ -36,21 +39,19 @@ pub(crate) fn decide<'a>(
     domains: &'a [u32; MAX_ENDPOINTS],
     live: usize,
     t: &'a [u64],
-    e: Endpoint,
-    address: u64,
-    kind: u8,
+    a: Access,
 ) -> Answer
     requires { ⌜ listed ≤ maxEndpoints ⌝ }
-    requires { ⌜ ((key : ℕ) (r : Mapping) → findMapping key address kind (take live (records (now t))) ≡ some r → address - r .start + r .phys ≤ 18446744073709551615) ⌝ }
-    ensures { λ r. ⌜ r ≡ decided listed (now (endpoints .entry)) (now (owners .entry)) (now (attached .entry)) (now (domains .entry)) (take live (records (now (t .entry)))) e address kind ⌝ }
+    requires { ⌜ ((key : ℕ) (r : Mapping) → findMapping key a (take live (records (now t))) ≡ some r → a .address - r .start + r .phys ≤ 18446744073709551615) ⌝ }
+    ensures { λ r. ⌜ r ≡ decisionAt (indexOf (a .endpoint .0) (take listed (now (endpoints .entry)))) listed (now (owners .entry)) (now (attached .entry)) (now (domains .entry)) (take live (records (now (t .entry)))) a ⌝ }
 {
-    let i = attachments::place_of(listed, endpoints, e);
+    let i = attachments::place_of(listed, endpoints, a.endpoint);
     if i >= listed {
-        return Answer::UnknownEndpoint;
+        return Answer::Refused(Refusal::UnknownEndpoint);
     }
     if attached[i] != 1 {
-        return Answer::Unattached;
+        return Answer::Blocked(Cause::Unattached);
     }
     let key = key_of(Guest(owners[i]), Domain(domains[i]));
-    translate(t, live, key, address, kind)
+    translate(t, live, key, a)
 }

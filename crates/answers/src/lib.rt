@@ -1,84 +1,57 @@
 // Document 01's number for each answer, and the values beside it.
 ghost use mathlib.Core.Path.{_≡_};
-ghost use Rattle.rules.specs.Answers.{number, usedLength, addressOf, fetchedCount};
+ghost use Rattle.rules.specs.Answers as answers;
 use rules::Answer;
+use rules::Cause;
+use rules::Refusal;
+use rules::Values;
 
-// The number that a call gives back.
-pub fn number_of(a: Answer) -> u8
-    ensures { λ r. ⌜ r ≡ number a ⌝ }
+// The number of a refusal.
+fn refusal_number(r: Refusal) -> u8
+    ensures { λ n. ⌜ n ≡ answers.refusalNumber r ⌝ }
 {
-    match a {
-        Answer::Done => 0,
-        Answer::Served => 0,
-        Answer::Through(_) => 0,
-        Answer::Fetched(_) => 0,
-        Answer::NoSuchGuest => 1,
-        Answer::Unsound => 2,
-        Answer::UnknownType => 3,
-        Answer::WrongLength => 4,
-        Answer::BadConfiguration => 5,
-        Answer::UnknownEndpoint => 6,
-        Answer::Unattached => 7,
-        Answer::Unmapped => 8,
+    match r {
+        Refusal::NoSuchGuest => 1,
+        Refusal::Unsound => 2,
+        Refusal::UnknownType => 3,
+        Refusal::WrongLength => 4,
+        Refusal::BadConfiguration => 5,
+        Refusal::UnknownEndpoint => 6,
     }
 }
 
-// The bytes used of a request's writable part.
-pub fn used_of(a: Answer) -> usize
-    ensures { λ r. ⌜ r ≡ usedLength a ⌝ }
+// The number of a blocked access.
+fn cause_number(c: Cause) -> u8
+    ensures { λ n. ⌜ n ≡ answers.causeNumber c ⌝ }
 {
-    match a {
-        Answer::Done => 0,
-        Answer::Served => 4,
-        Answer::Through(_) => 0,
-        Answer::Fetched(_) => 0,
-        Answer::NoSuchGuest => 0,
-        Answer::Unsound => 0,
-        Answer::UnknownType => 0,
-        Answer::WrongLength => 0,
-        Answer::BadConfiguration => 0,
-        Answer::UnknownEndpoint => 0,
-        Answer::Unattached => 0,
-        Answer::Unmapped => 0,
+    match c {
+        Cause::Unattached => 7,
+        Cause::Unmapped => 8,
     }
 }
 
-// The address that an access goes through to.
-pub fn address_of(a: Answer) -> u64
-    ensures { λ r. ⌜ r ≡ addressOf a ⌝ }
+// The number and the values beside it.
+fn with(number: u8, used: usize, address: u64, count: usize) -> Values
+    ensures { λ r. ⌜ r ≡ record { number = number; used = used; address = address; count = count } ⌝ }
 {
-    match a {
-        Answer::Done => 0,
-        Answer::Served => 0,
-        Answer::Through(to) => to,
-        Answer::Fetched(_) => 0,
-        Answer::NoSuchGuest => 0,
-        Answer::Unsound => 0,
-        Answer::UnknownType => 0,
-        Answer::WrongLength => 0,
-        Answer::BadConfiguration => 0,
-        Answer::UnknownEndpoint => 0,
-        Answer::Unattached => 0,
-        Answer::Unmapped => 0,
+    Values {
+        number,
+        used,
+        address,
+        count,
     }
 }
 
-// The number of faults that a fetch gave.
-pub fn count_of(a: Answer) -> usize
-    ensures { λ r. ⌜ r ≡ fetchedCount a ⌝ }
+// What a call gives back for an answer.
+pub fn values_of(a: Answer) -> Values
+    ensures { λ r. ⌜ r ≡ answers.values a ⌝ }
 {
     match a {
-        Answer::Done => 0,
-        Answer::Served => 0,
-        Answer::Through(_) => 0,
-        Answer::Fetched(n) => n,
-        Answer::NoSuchGuest => 0,
-        Answer::Unsound => 0,
-        Answer::UnknownType => 0,
-        Answer::WrongLength => 0,
-        Answer::BadConfiguration => 0,
-        Answer::UnknownEndpoint => 0,
-        Answer::Unattached => 0,
-        Answer::Unmapped => 0,
+        Answer::Done => with(0, 0, 0, 0),
+        Answer::Served(n) => with(0, n, 0, 0),
+        Answer::Through(to) => with(0, 0, to, 0),
+        Answer::Fetched(n) => with(0, 0, 0, n),
+        Answer::Refused(r) => with(refusal_number(r), 0, 0, 0),
+        Answer::Blocked(c) => with(cause_number(c), 0, 0, 0),
     }
 }

@@ -1,16 +1,15 @@
-// The test that comes before every call.
+// The tests that come before every call.
 ghost use mathlib.Core.Path.{_≡_};
 ghost use Prim.Native.Nat.{ℕ, _≤_};
 ghost use Rattle.rules.specs.Configuration.{windowLast};
 ghost use Rattle.rules.specs.Sound.{sound};
-ghost use Rattle.state.specs.Pieces.{stateWith, Shaped};
-ghost use Rattle.soundness.specs.Pieces.{deviceWith};
+ghost use Rattle.state.specs.Pieces.{Shaped};
 ghost use Rattle.effects.specs.Flat.{device};
-use rules::Settings;
+ghost use Rattle.effects.specs.Checks.{jobChecked};
+use effects::Checked;
+use rules::Guest;
+use rules::Refusal;
 use rules::State;
-use rules::sizes::FAULT_PLACES;
-use rules::sizes::MAX_ENDPOINTS;
-use rules::sizes::MAX_GUESTS;
 
 // Whether state and table are sound; and, for whoever calls, what the types of the state's arrays fix.
 pub fn is_sound(s: State, t: &[u64]) -> bool
@@ -35,66 +34,17 @@ pub fn is_sound(s: State, t: &[u64]) -> bool
     )
 }
 
-// Nothing. An array that is lent here as a slice has its length told to the proof of the lender.
-fn measure<'a>(
-    endpoints: &'a [u32],
-    owners: &'a [u8],
-    attached: &'a [u8],
-    domains: &'a [u32],
-    logged: &'a [usize],
-    lost: &'a [u32],
-    reasons: &'a [u8],
-    flags: &'a [u32],
-    sources: &'a [u32],
-    addresses: &'a [u64],
-) {}
-
-// Whether the state of these pieces and the table are sound; and, for whoever calls, what the types of the arrays fix.
-// The same with the arrays lent, for a caller that keeps its state.
-pub fn lent_sound<'a>(
-    settings: Settings,
-    listed: usize,
-    live: usize,
-    endpoints: &'a [u32; MAX_ENDPOINTS],
-    owners: &'a [u8; MAX_ENDPOINTS],
-    attached: &'a [u8; MAX_ENDPOINTS],
-    domains: &'a [u32; MAX_ENDPOINTS],
-    logged: &'a [usize; MAX_GUESTS],
-    lost: &'a [u32; MAX_GUESTS],
-    reasons: &'a [u8; FAULT_PLACES],
-    flags: &'a [u32; FAULT_PLACES],
-    sources: &'a [u32; FAULT_PLACES],
-    addresses: &'a [u64; FAULT_PLACES],
-    t: &'a [u64],
-) -> bool
-    ensures { λ r. ⌜ (r ≡ sound (deviceWith settings listed live (now (endpoints .entry)) (now (owners .entry)) (now (attached .entry)) (now (domains .entry)) (now (logged .entry)) (now (lost .entry)) (now (reasons .entry)) (now (flags .entry)) (now (sources .entry)) (now (addresses .entry)) (now (t .entry)))) × Shaped (stateWith settings listed live (now (endpoints .entry)) (now (owners .entry)) (now (attached .entry)) (now (domains .entry)) (now (logged .entry)) (now (lost .entry)) (now (reasons .entry)) (now (flags .entry)) (now (sources .entry)) (now (addresses .entry))) × ((i : ℕ) → windowLast settings i ≤ 18446744073709551615) ⌝ }
+// The test before a guest's job: the guest's number, then state and table; and, for whoever calls, what the types of the
+// state's arrays fix.
+pub fn check_job(s: State, t: &[u64], g: Guest) -> Checked
+    ensures { λ r. ⌜ (r ≡ jobChecked (device s (now (t .entry))) g) × Shaped s ⌝ }
 {
-    measure(
-        endpoints,
-        owners,
-        attached,
-        domains,
-        logged,
-        lost,
-        reasons,
-        flags,
-        sources,
-        addresses,
-    );
-    soundness::is_sound(
-        settings,
-        listed,
-        live,
-        endpoints,
-        owners,
-        attached,
-        domains,
-        logged,
-        lost,
-        reasons,
-        flags,
-        sources,
-        addresses,
-        t,
-    )
+    let settings = s.settings;
+    if settings.guests <= (g.0 as usize) {
+        return Checked::Refused(Refusal::NoSuchGuest);
+    }
+    if !is_sound(s, t) {
+        return Checked::Refused(Refusal::Unsound);
+    }
+    Checked::Passed
 }

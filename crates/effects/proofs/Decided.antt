@@ -94,9 +94,6 @@ module _ (s : State) (a : Access) where
   unfolding afterAccess
   logs-fault c i owner f t p q r u = rw (sym p, sym q, sym r) u
 
-  pub logs-blocked : (x : Answer) (c : Cause) (t : State) → x ≡ Blocked c → t ≡ afterAccess s a (Blocked c) → t ≡ afterAccess s a x
-  logs-blocked x c t e u = rw e u
-
 -- FETCH
 
 -- the bytes of j faults, and then those that were there

@@ -58,12 +58,24 @@ use Rattle.effects.proofs.Answered.{access-step, fetch-step}
 
 -- JOBS
 
+-- the test before a guest's job, as it returns
+module _ (s : State) (ws : List ℕ) (g : Guest) where
+  pub checks-number : s .settings .guests ≤ g .0 → C.Refused NoSuchGuest ≡ jobChecked (device s ws) g
+  checks-number h = rw (le-ltb (g .0) (s .settings .guests) h)
+
+  module _ (h : g .0 < s .settings .guests) (t : Bool) (e : t ≡ sound (device s ws)) where
+    pub checks-soundness : not t ≡ true → C.Refused Unsound ≡ jobChecked (device s ws) g
+    checks-soundness f = rw (lt-ltb (g .0) (s .settings .guests) h, sym e, f)
+
+    pub checks-pass : not t ≡ false → Passed ≡ jobChecked (device s ws) g
+    checks-pass f = rw (lt-ltb (g .0) (s .settings .guests) h, sym e, f)
+
 -- a guest's job on any state and table, by the test that comes before it
 module _ (s : State) (ws : List ℕ) (g : Guest) (r : Checked) (e : r ≡ jobChecked (device s ws) g) where
   pub job-refused : (j : Job) (a : Refusal) → r ≡ C.Refused a → (record { answer = Refused a; buffer = lentFor j }, device s ws) ≡ step (device s ws) (of-guest g j)
   job-refused j a f = go (ltb (g .0) (s .settings .guests)) refl (sound (device s ws)) refl (sym f ∙ e)
     where
-      same : (b : Refusal) → C.Refused a ≡ C.Refused b → (record { answer = Refused a; buffer = lentFor j }, device s ws) ≡ (refusedWith b (of-guest g j), device s ws)
+      same : (b : Refusal) → C.Refused a ≡ C.Refused b → _≡_ {A = Reply × Device} (record { answer = Refused a; buffer = lentFor j }, device s ws) (refusedWith b (of-guest g j), device s ws)
       same b q = let z : a ≡ b = cc in rw z
 
       go : (t : Bool) → ltb (g .0) (s .settings .guests) ≡ t → (u : Bool) → sound (device s ws) ≡ u → C.Refused a ≡ jobChecked (device s ws) g → (record { answer = Refused a; buffer = lentFor j }, device s ws) ≡ step (device s ws) (of-guest g j)

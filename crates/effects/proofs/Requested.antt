@@ -26,7 +26,7 @@ use Rattle.rules.specs.State.{Attachment, Log, World, Device, noLog, configOf, 
 use Rattle.rules.specs.Guests.{Part, own, part, replace, recordsOf, withRecordsOf, withRecords, withLog}
 use Rattle.rules.specs.Requests.{OK, INVAL, RANGE, NOENT, NOMEM}
 use Rattle.rules.specs.Handlers.{outside, isIn, exists, listed, attachmentOf, ofKey, without, leave, enter, moveFrom, attached, attachSteps, handleAttach, detachSteps, handleDetach, formSteps, recordSteps, mapSteps, handleMap, inside, straddles, unmapSteps, handleUnmap}
-use Rattle.rules.specs.Access.{reset, logged, fetchedFrom}
+use Rattle.rules.specs.Access.{afterReset, logged, fetchedFrom}
 use Rattle.rules.specs.Sound.{guest, sound}
 use Rattle.rules.specs.Device.{ownerOf, is}
 use Rattle.rules.proofs.Records.{mine}
@@ -309,8 +309,8 @@ module _ (c : Config) (k : kept c ≡ c) (w : World) (h : Whole c w) (g : Guest)
       or-no true = refl
       or-no false = refl
 
-  pub reset-written : resetFlat (write c w) g ≡ write c (replace c g (reset (part c g w)) w)
-  unfolding resetFlat reset replace
+  pub reset-written : resetFlat (write c w) g ≡ write c (replace c g (afterReset (part c g w)) w)
+  unfolding resetFlat afterReset replace
   reset-written =
       ap (λ (s : State). removed (device s (write c w .table)) (g .0 * domainSpan) (g .0 * domainSpan + (domainSpan - 1)) 0 topAddress) cleared
       ∙ fewer

@@ -2,9 +2,10 @@
 mod putting;
 
 ghost use mathlib.Core.Path.{_≡_};
-ghost use Rattle.rules.specs.Device.{step, fetch-for};
+ghost use Rattle.rules.specs.Device as rules;
 ghost use Rattle.effects.specs.Flat.{device};
 ghost use Rattle.effects.specs.Replied.{replied};
+use effects::Checked;
 use effects::Given;
 use rules::Answer;
 use rules::Guest;
@@ -12,18 +13,12 @@ use rules::State;
 
 // A guest's oldest faults, as many as are held and fit whole into the buffer, which then go.
 pub fn fetch(s: State, t: &[u64], g: Guest, buffer: &mut [u8]) -> Given
-    ensures { λ r. ⌜ replied r (now (buffer .exit)) (now (t .entry)) ≡ step (device s (now (t .entry))) (fetch-for g (now (buffer .entry))) ⌝ }
+    ensures { λ r. ⌜ replied r (now (buffer .exit)) (now (t .entry)) ≡ rules.step (device s (now (t .entry))) (rules.of-guest g (rules.fetch (now (buffer .entry)))) ⌝ }
 {
-    let settings = s.settings;
-    if settings.guests <= (g.0 as usize) {
+    let test = checks::check_job(s, t, g);
+    if let Checked::Refused(e) = test {
         return Given {
-            answer: Answer::NoSuchGuest,
-            state: s,
-        };
-    }
-    if !checks::is_sound(s, t) {
-        return Given {
-            answer: Answer::Unsound,
+            answer: Answer::Refused(e),
             state: s,
         };
     }

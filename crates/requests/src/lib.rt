@@ -13,6 +13,7 @@ ghost use Rattle.effects.specs.Outcome.{outcome};
 ghost use Rattle.effects.specs.Serve.{handled};
 ghost use Rattle.state.specs.Pieces.{Shaped};
 ghost use Rattle.effects.specs.Replied.{replied};
+use effects::Checked;
 use effects::Given;
 use effects::Handled;
 use layouts::request::Request;
@@ -21,6 +22,7 @@ use rules::Guest;
 use rules::Mapping;
 use rules::State;
 use rules::requests::OK;
+use rules::sizes::STATUS_SIZE;
 
 // The handler of a request's type.
 fn handle(s: State, t: &mut [u64], g: Guest, q: Request) -> Handled
@@ -51,12 +53,12 @@ fn handle(s: State, t: &mut [u64], g: Guest, q: Request) -> Handled
 // A request on sound state and table.
 fn serve(s: State, t: &mut [u64], g: Guest, readable: &[u8], writable: &mut [u8]) -> Given
     requires { ⌜ (sound (device s (now t)) ≡ true) × Shaped s × (ltb (g .0) (s .settings .guests) ≡ true) ⌝ }
-    ensures { λ r. ⌜ replied r (now (writable .exit)) (now (t .exit)) ≡ rules.step (device s (now (t .entry))) (rules.request g (now (readable .entry)) (now (writable .entry))) ⌝ }
+    ensures { λ r. ⌜ replied r (now (writable .exit)) (now (t .exit)) ≡ rules.step (device s (now (t .entry))) (rules.of-guest g (rules.request (now (readable .entry)) (now (writable .entry)))) ⌝ }
 {
     let q = layouts::request::parse(readable, writable.len());
-    if let Request::Refused(a) = q {
+    if let Request::Refused(e) = q {
         return Given {
-            answer: a,
+            answer: Answer::Refused(e),
             state: s,
         };
     }
@@ -64,25 +66,19 @@ fn serve(s: State, t: &mut [u64], g: Guest, readable: &[u8], writable: &mut [u8]
     wire::status::put_status(writable, h.status);
     let next = h.state;
     Given {
-        answer: Answer::Served,
+        answer: Answer::Served(STATUS_SIZE),
         state: next,
     }
 }
 
 // A guest's request, in a readable and a writable part of any lengths.
 pub fn request(s: State, t: &mut [u64], g: Guest, readable: &[u8], writable: &mut [u8]) -> Given
-    ensures { λ r. ⌜ replied r (now (writable .exit)) (now (t .exit)) ≡ rules.step (device s (now (t .entry))) (rules.request g (now (readable .entry)) (now (writable .entry))) ⌝ }
+    ensures { λ r. ⌜ replied r (now (writable .exit)) (now (t .exit)) ≡ rules.step (device s (now (t .entry))) (rules.of-guest g (rules.request (now (readable .entry)) (now (writable .entry)))) ⌝ }
 {
-    let settings = s.settings;
-    if settings.guests <= (g.0 as usize) {
+    let test = checks::check_job(s, t, g);
+    if let Checked::Refused(e) = test {
         return Given {
-            answer: Answer::NoSuchGuest,
-            state: s,
-        };
-    }
-    if !checks::is_sound(s, t) {
-        return Given {
-            answer: Answer::Unsound,
+            answer: Answer::Refused(e),
             state: s,
         };
     }

@@ -13,7 +13,7 @@ use Rattle.rules.specs.declared.Answer.{Answer}
 use Rattle.rules.specs.declared.Answer.the-variants.{Done, Served, Fetched, Refused}
 use Rattle.rules.specs.declared.Refusal.{Refusal}
 use Rattle.rules.specs.declared.Refusal.the-variants.{NoSuchGuest, Unsound, BadConfiguration, UnknownEndpoint}
-use Rattle.rules.specs.Sizes.{tableWords}
+use Rattle.rules.specs.Sizes.{tableWords, statusSize}
 use Rattle.rules.specs.Configuration.{Config, good}
 use Rattle.rules.specs.State.{World, Device, configOf, read, write, stateOf, start, zeroState}
 use Rattle.rules.specs.Guests.{Own, Part, own, part, replace, withLog}
@@ -56,7 +56,7 @@ refusedWith e x = record { answer = Refused e; buffer = lent x }
 
 -- "Writable part: exactly 4 bytes, status then three zeros; used length 4."
 abbrev pub served : ℕ × Part → Reply × Part
-served r = (record { answer = Served 4; buffer = r .0 ∷ 0 ∷ 0 ∷ 0 ∷ [] }, r .1)
+served r = (record { answer = Served statusSize; buffer = r .0 ∷ 0 ∷ 0 ∷ 0 ∷ [] }, r .1)
 
 -- the request, unless a refusal comes first
 unfoldable pub requested : Own → Part → List ℕ → List ℕ → Option Refusal → Reply × Part

@@ -5,6 +5,7 @@ use mathlib.Core.List.{List, [], _∷_}
 use lib.Dec.{leb, ltb, eqb}
 use lib.ListN.{length, getD}
 use Rattle.laws.specs.Bytes.{leField}
+use Rattle.rules.specs.Sizes.{statusSize}
 use Rattle.rules.specs.declared.Endpoint.{Endpoint}
 use Rattle.rules.specs.declared.Domain.{Domain}
 use Rattle.rules.specs.declared.Refusal.{Refusal}
@@ -56,7 +57,7 @@ abbrev pub readableLength : ℕ → ℕ
 readableLength t = cond (eqb t ATTACH) 20 (cond (eqb t DETACH) 20 (cond (eqb t MAP) 36 (cond (eqb t UNMAP) 28 0)))
 
 abbrev pub writableLength : ℕ → ℕ
-writableLength t = cond (leb ATTACH t && leb t UNMAP) 4 0
+writableLength t = cond (leb ATTACH t && leb t UNMAP) statusSize 0
 
 -- "Head: type byte, three bytes ignored." The fields after it, by the bytes' places.
 abbrev pub typeOf : List ℕ → ℕ

@@ -36,6 +36,10 @@ maxLost = 65535
 abbrev pub faultSize : ℕ
 faultSize = 24
 
+-- "Writable part: exactly 4 bytes, status then three zeros"
+abbrev pub statusSize : ℕ
+statusSize = 4
+
 -- the 2^32 of "guest × 2^32 + domain"
 abbrev pub domainSpan : ℕ
 domainSpan = 2 ^ 32

@@ -27,5 +27,8 @@ pub const MAX_LOST: u32 = 65535;
 // The bytes of a fault record.
 pub const FAULT_SIZE: usize = 24;
 
+// The bytes of a request's status: the status and three zeros.
+pub const STATUS_SIZE: usize = 4;
+
 // What the guest's number is multiplied by in a record's first word.
 pub const DOMAIN_SPAN: u64 = 4294967296;

@@ -8,6 +8,7 @@ use effects::Given;
 use rules::Answer;
 use rules::DomainRange;
 use rules::InputRange;
+use rules::Refusal;
 use rules::Settings;
 use rules::State;
 use rules::sizes::FAULT_PLACES;
@@ -106,13 +107,13 @@ pub fn set_up(settings: Settings, endpoints: &[u32], owners: &[u8], t: &mut [u64
 {
     if t.len() != TABLE_WORDS {
         return Given {
-            answer: Answer::Unsound,
+            answer: Answer::Refused(Refusal::Unsound),
             state: zero_state(),
         };
     }
     if !is_good(settings, endpoints, owners) {
         return Given {
-            answer: Answer::BadConfiguration,
+            answer: Answer::Refused(Refusal::BadConfiguration),
             state: zero_state(),
         };
     }

@@ -6,6 +6,7 @@ ghost use Rattle.rules.specs.Answers.{number, usedLength, addressOf, fetchedCou
 ghost use Rattle.rules.specs.Device as rules;
 ghost use Rattle.effects.specs.Flat.{device};
 ghost use Rattle.effects.specs.Setting.{configured};
+use rules::Access;
 use rules::Endpoint;
 use rules::Guest;
 use rules::Settings;
@@ -61,8 +62,9 @@ pub extern "C" fn viommu_set_up(
     let given = setup::set_up(settings, endpoints, owners, t);
     let answer = given.answer;
     let next = given.state;
+    let values = answers::values_of(answer);
     SetUpGiven {
-        number: answers::number_of(answer),
+        number: values.number,
         state: next,
     }
 }
@@ -75,15 +77,16 @@ pub extern "C" fn viommu_request(
     readable: &[u8],
     writable: &mut [u8],
 ) -> RequestGiven
-    ensures { λ r. ⌜ (r .number ≡ number (rules.step (device s (now (t .entry))) (rules.request g (now (readable .entry)) (now (writable .entry))) .0 .answer)) × (r .used ≡ usedLength (rules.step (device s (now (t .entry))) (rules.request g (now (readable .entry)) (now (writable .entry))) .0 .answer)) ⌝ }
-    ensures { λ r. ⌜ (device (r .state) (now (t .exit)) ≡ rules.step (device s (now (t .entry))) (rules.request g (now (readable .entry)) (now (writable .entry))) .1) × (now (writable .exit) ≡ rules.step (device s (now (t .entry))) (rules.request g (now (readable .entry)) (now (writable .entry))) .0 .buffer) ⌝ }
+    ensures { λ r. ⌜ (r .number ≡ number (rules.step (device s (now (t .entry))) (rules.of-guest g (rules.request (now (readable .entry)) (now (writable .entry)))) .0 .answer)) × (r .used ≡ usedLength (rules.step (device s (now (t .entry))) (rules.of-guest g (rules.request (now (readable .entry)) (now (writable .entry)))) .0 .answer)) ⌝ }
+    ensures { λ r. ⌜ (device (r .state) (now (t .exit)) ≡ rules.step (device s (now (t .entry))) (rules.of-guest g (rules.request (now (readable .entry)) (now (writable .entry)))) .1) × (now (writable .exit) ≡ rules.step (device s (now (t .entry))) (rules.of-guest g (rules.request (now (readable .entry)) (now (writable .entry)))) .0 .buffer) ⌝ }
 {
     let given = requests::request(s, t, g, readable, writable);
     let answer = given.answer;
     let next = given.state;
+    let values = answers::values_of(answer);
     RequestGiven {
-        number: answers::number_of(answer),
-        used: answers::used_of(answer),
+        number: values.number,
+        used: values.used,
         state: next,
     }
 }
@@ -96,42 +99,50 @@ pub extern "C" fn viommu_access(
     address: u64,
     kind: u8,
 ) -> AccessGiven
-    ensures { λ r. ⌜ (r .number ≡ number (rules.step (device s (now (t .entry))) (rules.access-by e address kind) .0 .answer)) × (r .address ≡ addressOf (rules.step (device s (now (t .entry))) (rules.access-by e address kind) .0 .answer)) × (device (r .state) (now (t .entry)) ≡ rules.step (device s (now (t .entry))) (rules.access-by e address kind) .1) ⌝ }
+    ensures { λ r. ⌜ (r .number ≡ number (rules.step (device s (now (t .entry))) (rules.access-by (record { endpoint = e; address = address; kind = kind })) .0 .answer)) × (r .address ≡ addressOf (rules.step (device s (now (t .entry))) (rules.access-by (record { endpoint = e; address = address; kind = kind })) .0 .answer)) × (device (r .state) (now (t .entry)) ≡ rules.step (device s (now (t .entry))) (rules.access-by (record { endpoint = e; address = address; kind = kind })) .1) ⌝ }
 {
-    let given = accesses::access(s, t, e, address, kind);
+    let a = Access {
+        endpoint: e,
+        address,
+        kind,
+    };
+    let given = accesses::access(s, t, a);
     let answer = given.answer;
     let next = given.state;
+    let values = answers::values_of(answer);
     AccessGiven {
-        number: answers::number_of(answer),
-        address: answers::address_of(answer),
+        number: values.number,
+        address: values.address,
         state: next,
     }
 }
 
 #[no_mangle]
 pub extern "C" fn viommu_reset(s: State, t: &mut [u64], g: Guest) -> ResetGiven
-    ensures { λ r. ⌜ (r .number ≡ number (rules.step (device s (now (t .entry))) (rules.reset-of g) .0 .answer)) × (device (r .state) (now (t .exit)) ≡ rules.step (device s (now (t .entry))) (rules.reset-of g) .1) ⌝ }
+    ensures { λ r. ⌜ (r .number ≡ number (rules.step (device s (now (t .entry))) (rules.of-guest g rules.reset) .0 .answer)) × (device (r .state) (now (t .exit)) ≡ rules.step (device s (now (t .entry))) (rules.of-guest g rules.reset) .1) ⌝ }
 {
     let given = requests::resetting::reset(s, t, g);
     let answer = given.answer;
     let next = given.state;
+    let values = answers::values_of(answer);
     ResetGiven {
-        number: answers::number_of(answer),
+        number: values.number,
         state: next,
     }
 }
 
 #[no_mangle]
 pub extern "C" fn viommu_fetch(s: State, t: &[u64], g: Guest, buffer: &mut [u8]) -> FetchGiven
-    ensures { λ r. ⌜ (r .number ≡ number (rules.step (device s (now (t .entry))) (rules.fetch-for g (now (buffer .entry))) .0 .answer)) × (r .count ≡ fetchedCount (rules.step (device s (now (t .entry))) (rules.fetch-for g (now (buffer .entry))) .0 .answer)) ⌝ }
-    ensures { λ r. ⌜ (device (r .state) (now (t .entry)) ≡ rules.step (device s (now (t .entry))) (rules.fetch-for g (now (buffer .entry))) .1) × (now (buffer .exit) ≡ rules.step (device s (now (t .entry))) (rules.fetch-for g (now (buffer .entry))) .0 .buffer) ⌝ }
+    ensures { λ r. ⌜ (r .number ≡ number (rules.step (device s (now (t .entry))) (rules.of-guest g (rules.fetch (now (buffer .entry)))) .0 .answer)) × (r .count ≡ fetchedCount (rules.step (device s (now (t .entry))) (rules.of-guest g (rules.fetch (now (buffer .entry)))) .0 .answer)) ⌝ }
+    ensures { λ r. ⌜ (device (r .state) (now (t .entry)) ≡ rules.step (device s (now (t .entry))) (rules.of-guest g (rules.fetch (now (buffer .entry)))) .1) × (now (buffer .exit) ≡ rules.step (device s (now (t .entry))) (rules.of-guest g (rules.fetch (now (buffer .entry)))) .0 .buffer) ⌝ }
 {
     let given = fetches::fetch(s, t, g, buffer);
     let answer = given.answer;
     let next = given.state;
+    let values = answers::values_of(answer);
     FetchGiven {
-        number: answers::number_of(answer),
-        count: answers::count_of(answer),
+        number: values.number,
+        count: values.count,
         state: next,
     }
 }

@@ -1,31 +1,26 @@
 -- `requests::request` meets its contract. Assumes nothing.
 use borrow.Author.Needs.{needs}
-use Rattle.effects.proofs.Entries.{request-no-guest, request-unsound, serve-ready}
+use Rattle.rules.specs.Device.{request}
+use Rattle.effects.proofs.Entries.{job-refused, job-passes}
 use Rattle.requests.proofs.request.Statement.{statement}
 use Rattle.requests.proofs.request.Tie as tie
 
 returns : tie.Need-returns
 returns c =
-    let a = c .before .before .before .before .before .before .before .args in
-    request-no-guest (a .s) (a .t .now) (a .g) (a .readable .now) (a .writable .now) (c .if1 .taken)
-
-returns-2 : tie.Need-returns-2
-returns-2 c =
-    let x = c .before .is-sound in
-    let e = c .before .before .before in
-    let a = e .before .before .before .before .before .before .before .args in
-    request-unsound (a .s) (a .t .now) (a .g) (e .if1 .left) (x .result) (x .ensures .0) (c .if2 .taken) (a .readable .now) (a .writable .now)
+    let q = c .before .test .given in
+    let k = c .before .before .before .check-job in
+    let a = c .before .before .before .before .before .before .before .before .args in
+    job-refused (a .s) (a .t .now) (a .g) (k .result) (k .ensures .0) (request (a .readable .now) (a .writable .now)) (q .0 .0) (q .1)
 
 serve-requires : tie.Need-serve-requires
 serve-requires c κs =
-    let f = c .before .before in
-    let x = f .before .is-sound in
-    let e = f .before .before .before in
-    let a = e .before .before .before .before .before .before .before .args in
-    serve-ready (a .s) (a .t .now) (a .g) (e .if1 .left) (x .result) (x .ensures .0) (f .if2 .left) (x .ensures .1)
+    let k = c .before .before .before .before .check-job in
+    let a = c .before .before .before .before .before .before .before .before .before .args in
+    let p = job-passes (a .s) (a .t .now) (a .g) (k .result) (k .ensures .0) (c .before .before .enum-told .given .1) in
+    (p .0, k .ensures .1, p .1)
 
-returns-3 : tie.Need-returns-3
-returns-3 c = c .before .before .before .before .serve .ensures
+returns-2 : tie.Need-returns-2
+returns-2 c = c .before .before .before .before .serve .ensures
 
 pub request-spec : {M : Type 1} → statement M
-request-spec = tie.close (tie.spec (λ c. search needs) returns (λ c κs. search needs) (λ c. search needs) returns-2 serve-requires (λ c. search needs) (λ c. search needs) returns-3)
+request-spec = tie.close (tie.spec (λ c κs. search needs) (λ c. search needs) (λ c. search needs) returns (λ c. search needs) serve-requires (λ c. search needs) (λ c. search needs) returns-2)
