@@ -1,6 +1,7 @@
 -- `viommu::viommu_reset` meets its contract. Assumes nothing.
 use mathlib.Core.Path.{ap, _∙_}
 use borrow.Author.Needs.{needs}
+use Rattle.rules.specs.declared.Values.{Values}
 use Rattle.rules.specs.Answers.{number}
 use Rattle.rules.specs.State.{Device}
 use Rattle.rules.specs.Device.{Reply}
@@ -10,7 +11,7 @@ use Rattle.viommu.proofs.viommu_reset.Tie as tie
 returns : tie.Need-returns
 returns c =
     let e = c .before .before .before .before .reset .ensures in
-    (c .number-of .ensures ∙ ap (λ (p : Reply × Device). number (p .0 .answer)) e, ap (λ (p : Reply × Device). p .1) e)
+    (ap (λ (v : Values). v .number) (c .values-of .ensures) ∙ ap (λ (p : Reply × Device). number (p .0 .answer)) e, ap (λ (p : Reply × Device). p .1) e)
 
 pub viommu-reset-spec : {M : Type 1} → statement M
 viommu-reset-spec = tie.close (tie.spec (λ c κs. search needs) (λ c κs. search needs) (λ c. search needs) returns)
