@@ -21,7 +21,7 @@ fn translate(t: &[u64], live: usize, key: u64, address: u64, kind: u8) -> Answer
     requires { ⌜ ((r : Mapping) → findMapping key address kind (take live (records (now t))) ≡ some r → address - r .start + r .phys ≤ 18446744073709551615) ⌝ }
     ensures { λ r. ⌜ r ≡ answerOf address (findMapping key address kind (take live (records (now (t .entry))))) ⌝ }
 {
-    match lookups::findMapping(t, live, key, address, kind) {
+    match lookups::find_mapping(t, live, key, address, kind) {
         Found::At(r) => Answer::Through(address - r.start + r.phys),
         Found::Nothing => Answer::Unmapped,
     }
