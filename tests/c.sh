@@ -78,7 +78,7 @@ show show_lost garbage_effect.c garbage_wanted.c
 show show_buffers requests.c garbage_effect.c garbage_wanted.c
 show show_table requests.c
 
-garbage=(garbage.c garbage_set_up.c garbage_good.c garbage_draw.c garbage_wanted.c garbage_effect.c garbage_call.c
+garbage=(garbage.c garbage_set_up.c garbage_good.c garbage_sound.c garbage_draw.c garbage_wanted.c garbage_effect.c garbage_call.c
   garbage_queries.c garbage_break.c garbage_break_configuration.c garbage_break_records.c garbage_break_places.c garbage_damage.c
   lent.c requests.c)
 build garbage -- "${garbage[@]}"

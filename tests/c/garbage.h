@@ -57,10 +57,12 @@ int good(const struct viommu_settings *s, const struct lists *l);
 /* garbage_draw.c: a call that has a good chance of being worked on this device. */
 struct call draw_call(struct random *r, const struct device *d);
 
-/* garbage_wanted.c: bit n is set where 01 lets the call be answered n, by what is known of state and table; and the value
-   that goes with number 0. */
-enum soundness { SOUND, BROKEN, UNKNOWN };
-unsigned wanted_numbers(const struct call *c, const struct device *d, enum soundness soundness);
+/* garbage_sound.c: document 01's "State and table are sound when". */
+enum soundness { SOUND, BROKEN };
+enum soundness soundness_of(const struct device *d);
+
+/* garbage_wanted.c: the number that 01 asks for, and the value that goes with number 0. */
+unsigned wanted_number(const struct call *c, const struct device *d, enum soundness soundness);
 uint64_t wanted_value(const struct call *c, const struct device *d);
 
 /* garbage_effect.c: makes d what a call, answered so, is to leave it; a request answered OK leaves it to the rules. */
