@@ -8,19 +8,19 @@ feed=$work/feed
 gcc -std=c11 -O2 -Wall -Wextra -Werror tests/c/feed.c -o "$feed"
 put_parts tests/long
 
-# check LABEL ASKED COMMAND..: the command prints what the file ASKED holds.
+# check LABEL ASKED COMMAND..: the command succeeds and prints what the file ASKED holds.
 check() {
-  local label=$1 status=0
+  local label=$1
   cat "$2" >"$work/asked"
   shift 2
-  "$@" >"$work/printed" || status=$?
-  compare "$label" "$status"
+  "$@" >"$work/printed" || fail "$label: see above"
+  compare "$label" 0
 }
 
 # A read that fails is no end of the journal: the lines of what was read come, and no last line, whether a record is cut or not.
 : >"$work/nothing"
-from_folder() { "$program" </; }
-from_closed() { "$program" <&-; }
+from_folder() { "$program" </ || [ $? -lt 128 ]; }
+from_closed() { "$program" <&- || [ $? -lt 128 ]; }
 check "standard input is a folder" "$work/nothing" from_folder
 check "standard input is closed" "$work/nothing" from_closed
 check "the first read fails" "$work/nothing" "$feed" broken "$program" "$work/nothing"
@@ -38,7 +38,7 @@ done
 
 # beginning LABEL FIRST SECOND: where long writes fail and short ones do not, no line follows a missing one.
 beginning() {
-  "$feed" short "$program" "$2" "$3" >"$work/printed" || fail "$1: status $?"
+  "$feed" short "$program" "$2" "$3" >"$work/printed" || fail "$1: see above"
   head -c "$(wc -c <"$work/printed")" "$work/asked" | cmp -s - "$work/printed" ||
     fail "$1: what was printed does not begin the lines asked for: $(head -c 100 "$work/printed")"
 }

@@ -1,5 +1,5 @@
 /* Runs a journal program with its standard input or output in this program's hands. What the program prints goes to this
-   one's standard output, and its status is this one's.
+   one's standard output. It may end with any status, but not by a signal.
 
      feed apart PROGRAM JOURNAL        every read of the program's brings one byte of the journal
      feed broken PROGRAM JOURNAL       after the journal's bytes a read fails, once
@@ -17,6 +17,7 @@
 #include "expect.h"
 
 #define FILE_MOST (1 << 22) /* bytes of the longest file */
+#define NOT_RUN 127         /* the status of a program that could not be run */
 #define SHORT 4096          /* bytes of the shortest send buffer that the system gives, or fewer */
 
 struct bytes {
@@ -59,21 +60,21 @@ static pid_t start(const char *program, int in, int out)
         else
             dup2(out, STDOUT_FILENO);
         execl(program, program, (char *)NULL);
-        _exit(127);
+        _exit(NOT_RUN);
     }
     return child;
 }
 
-/* The program's status when it has ended. */
-static int status_of(pid_t child)
+/* Waits until the program has ended. */
+static void await(pid_t child)
 {
     int status;
     EXPECT(waitpid(child, &status, 0) == child);
-    return WIFEXITED(status) ? WEXITSTATUS(status) : 128 + WTERMSIG(status);
+    EXPECT(WIFEXITED(status) && WEXITSTATUS(status) != NOT_RUN);
 }
 
 /* A packet for each byte: a read gets one packet. A program that has ended takes no more. */
-static int apart(const char *program, struct bytes journal)
+static void apart(const char *program, struct bytes journal)
 {
     struct pair in = pair_of(SOCK_SEQPACKET);
     pid_t child = start(program, in.theirs, STDOUT_FILENO);
@@ -82,18 +83,18 @@ static int apart(const char *program, struct bytes journal)
     while (sent < journal.count && send(in.ours, journal.at + sent, 1, 0) == 1)
         sent++;
     close(in.ours);
-    return status_of(child);
+    await(child);
 }
 
 /* An end that is closed while a byte to it is unread breaks the connection: the other end reads what is there, and then the
    read fails. */
-static int broken(const char *program, struct bytes journal)
+static void broken(const char *program, struct bytes journal)
 {
     struct pair in = pair_of(SOCK_STREAM);
     EXPECT(write(in.theirs, "", 1) == 1);
     EXPECT(write(in.ours, journal.at, journal.count) == (ssize_t)journal.count);
     close(in.ours);
-    return status_of(start(program, in.theirs, STDOUT_FILENO));
+    await(start(program, in.theirs, STDOUT_FILENO));
 }
 
 /* An output that is full, closed, without a reader, or with room for short writes alone. */
@@ -126,7 +127,7 @@ static void hand_on(int from)
     EXPECT(fflush(stdout) == 0);
 }
 
-static int unwritable(const char *how, const char *program, struct bytes first, struct bytes second)
+static void unwritable(const char *how, const char *program, struct bytes first, struct bytes second)
 {
     static char left[FILE_MOST];
     struct pair in = pair_of(SOCK_SEQPACKET), short_writes = {-1, -1};
@@ -139,20 +140,21 @@ static int unwritable(const char *how, const char *program, struct bytes first, 
         close(out);
     if (short_writes.ours >= 0)
         hand_on(short_writes.ours);
-    int status = status_of(child);
+    await(child);
     ssize_t got = recv(in.theirs, left, sizeof left, MSG_DONTWAIT);
     if (short_writes.ours < 0)
         EXPECT(got == (ssize_t)second.count && memcmp(left, second.at, second.count) == 0);
-    return status;
 }
 
 int main(int count, char **words)
 {
     signal(SIGPIPE, SIG_IGN);
-    if (count == 4 && strcmp(words[1], "apart") == 0)
-        return apart(words[2], file(words[3]));
-    if (count == 4 && strcmp(words[1], "broken") == 0)
-        return broken(words[2], file(words[3]));
-    EXPECT(count == 5);
-    return unwritable(words[1], words[2], file(words[3]), file(words[4]));
+    EXPECT(count == 4 || count == 5);
+    if (count == 5)
+        unwritable(words[1], words[2], file(words[3]), file(words[4]));
+    else if (strcmp(words[1], "apart") == 0)
+        apart(words[2], file(words[3]));
+    else
+        broken(words[2], file(words[3]));
+    return 0;
 }
