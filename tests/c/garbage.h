@@ -79,7 +79,16 @@ size_t ways_to_break(void);
 int broken(struct random *r, size_t way, struct device *d);
 const char *name_of_way(size_t way);
 
-/* garbage_damage.c: damage after which the device may or may not be sound. */
+/* A field of the state: where it starts, the bytes of an element, the number of elements. */
+struct field {
+    size_t offset;
+    size_t width;
+    size_t count;
+};
+
+/* garbage_damage.c: the fields of the state, up to one without elements; and damage after which the device may or may not be
+   sound. */
+extern const struct field fields[];
 void damage_one_field(struct random *r, struct device *d);
 void damage_length(struct random *r, struct device *d);
 void damage_all(struct random *r, struct device *d);

@@ -3,17 +3,10 @@
 
 #include "garbage.h"
 
-/* A field of the state: where it starts, the bytes of an element, the number of elements. */
-struct field {
-    size_t offset;
-    size_t width;
-    size_t count;
-};
-
 #define ONE(name) {offsetof(struct viommu_state, name), sizeof ((struct viommu_state *)0)->name, 1}
 #define MANY(name, n) {offsetof(struct viommu_state, name), sizeof ((struct viommu_state *)0)->name / (n), (n)}
 
-static const struct field fields[] = {
+const struct field fields[] = {
     ONE(settings.guests),
     MANY(settings.shares, VIOMMU_GUESTS),
     MANY(settings.firsts, VIOMMU_GUESTS),
@@ -35,9 +28,10 @@ static const struct field fields[] = {
     MANY(flags, VIOMMU_FAULT_PLACES),
     MANY(sources, VIOMMU_FAULT_PLACES),
     MANY(addresses, VIOMMU_FAULT_PLACES),
+    {0, 0, 0},
 };
 
-#define FIELDS (sizeof fields / sizeof *fields)
+#define FIELDS (sizeof fields / sizeof *fields - 1)
 
 /* The low bytes of the number at an element of the field; x86-64 has the low byte first. */
 static void store(struct viommu_state *s, struct field f, size_t i, uint64_t number)
