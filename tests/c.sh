@@ -58,7 +58,7 @@ build guest_numbers -- guest_numbers.c driver.c requests.c shown.c
 build edges -- edges.c driver.c requests.c
 "$out/edges"
 
-build stack -pthread -- stack.c driver.c requests.c
+build stack -pthread -- stack.c stack_calls.c driver.c requests.c
 "$out/stack"
 
 build worked_run -- worked_run.c requests.c

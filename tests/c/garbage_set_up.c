@@ -45,7 +45,7 @@ static void spoil(struct random *r, struct viommu_settings *s, struct lists *l)
 {
     size_t g = below(r, VIOMMU_GUESTS);
     switch (below(r, 12)) {
-    case 0: s->guests = edge(r); break;
+    case 0: s->guests = once_in(r, 2) ? edge(r) : s->guests | (size_t)1 << below(r, 64); break;
     case 1: s->shares[g] = (uint32_t)edge(r); break;
     case 2: s->firsts[g] = edge(r); break;
     case 3: s->lasts[g] = edge(r); break;

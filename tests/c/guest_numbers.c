@@ -1,13 +1,14 @@
-/* Every number that a guest may have, on devices of one to four guests: those below the guest count are served, the others get
-   1 by every call under a guest's number, and nothing changes, whichever bits of the number make it so. Where the guest count
-   is none that there may be, 1 still comes before 2. */
+/* Every number that a guest may have, on devices of one to four guests: from the guest count on each gets 1 by every call under
+   a guest's number, and nothing changes, whichever bits of the number make it so. Where the guest count is none that there
+   may be, 1 still comes before 2. */
 #include <string.h>
 
 #include "driver.h"
 #include "expect.h"
 #include "shown.h"
 
-#define NUMBERS 256 /* numbers that a guest may have */
+#define NUMBERS 256                        /* numbers that a guest may have */
+#define BIT32(n) (((size_t)1 << 32) + (n)) /* a count whose low half is n */
 
 static struct driver device;
 
@@ -146,9 +147,8 @@ static void check_held(void)
 
 int main(void)
 {
-    static const size_t counts[] = {0,   5,   6,     8,          16,         17,         32,         64,
-                                    128, 255, 256,   257,        260,        65536,      65537,      65540,
-                                    (size_t)1 << 32, ((size_t)1 << 32) + 1, ((size_t)1 << 32) + 4, ((size_t)1 << 63) + 4, SIZE_MAX};
+    static const size_t counts[] = {0,   5,   6,     8,     16,    17,       32,       64,       128,       255,     256,
+                                    257, 260, 65536, 65537, 65540, BIT32(0), BIT32(1), BIT32(4), BIT32(255), SIZE_MAX};
     for (size_t guests = 1; guests <= VIOMMU_GUESTS; guests++)
         check_unknown(guests);
     for (size_t i = 0; i < sizeof counts / sizeof *counts; i++)

@@ -1,5 +1,5 @@
-/* Numbers that are wrong in their high bits alone: by their low 7, 8, 16, 24 or 32 bits each would be taken for a right one. And
-   a table that is full, with a live count past it. */
+/* Numbers that are wrong in their high bits alone: by their low 7, 8, 16, 24 or 32 bits each would be taken for a right one.
+   And a table that is full, with a live count past it. */
 #include "expect.h"
 #include "show_soundness.h"
 
@@ -154,8 +154,8 @@ static void show_full(struct driver d)
     EXPECT(ask(&d, 0, unmap(1, 0, UINT64_MAX, 0)) == VIOMMU_STATUS_OK);
     d.state.settings.shares[0] = 256;
     d.state.settings.shares[1] = 0;
-    for (uint64_t n = 1; n <= VIOMMU_RECORDS; n++)
-        EXPECT(ask(&d, 0, map(1, 0x1000 * n, 0x1000 * n + 0xfff, 0x80000000 + 0x1000 * n, VIOMMU_FLAG_READ)) == VIOMMU_STATUS_OK);
+    for (uint64_t at = 0x1000; at <= 0x1000 * VIOMMU_RECORDS; at += 0x1000)
+        EXPECT(ask(&d, 0, map(1, at, at + 0xfff, 0x80000000 + at, VIOMMU_FLAG_READ)) == VIOMMU_STATUS_OK);
     show("a full table, live count 256", &d);
     d.state.live = 257;
     show("a full table, live count 257", &d);
