@@ -55,6 +55,9 @@ build handed_in -- handed_in.c
 build guest_numbers -- guest_numbers.c driver.c requests.c shown.c
 "$out/guest_numbers"
 
+build wide_lengths -- wide_lengths.c driver.c requests.c shown.c
+"$out/wide_lengths"
+
 build edges -- edges.c driver.c requests.c
 "$out/edges"
 
