@@ -52,10 +52,16 @@ build layout -- layout.c distinct.c driver.c requests.c
 build handed_in -- handed_in.c
 "$out/handed_in"
 
+build guest_numbers -- guest_numbers.c driver.c requests.c shown.c
+"$out/guest_numbers"
+
+build wide_lengths -- wide_lengths.c driver.c requests.c shown.c
+"$out/wide_lengths"
+
 build edges -- edges.c driver.c requests.c
 "$out/edges"
 
-build stack -pthread -- stack.c driver.c requests.c
+build stack -pthread -- stack.c stack_calls.c driver.c requests.c
 "$out/stack"
 
 build worked_run -- worked_run.c requests.c
@@ -72,15 +78,18 @@ show() {
 
 show show_configuration show_configuration_line.c
 show show_soundness show_soundness_line.c show_soundness_settings.c show_soundness_places.c show_soundness_records.c \
-  show_soundness_faults.c driver.c requests.c
+  show_soundness_faults.c show_soundness_wide.c driver.c requests.c
 show show_lengths show_lengths_tables.c show_lengths_parts.c driver.c requests.c
 show show_lost garbage_effect.c garbage_wanted.c
 show show_buffers requests.c garbage_effect.c garbage_wanted.c
 show show_table requests.c
 
-garbage=(garbage.c garbage_set_up.c garbage_good.c garbage_draw.c garbage_wanted.c garbage_effect.c garbage_call.c
-  garbage_queries.c garbage_break.c garbage_break_configuration.c garbage_break_records.c garbage_break_places.c garbage_damage.c
-  lent.c requests.c)
+wanted=(garbage_good.c garbage_sound.c garbage_wanted.c garbage_effect.c garbage_call.c garbage_damage.c lent.c requests.c)
+build bits -- bits.c bits_kinds.c distinct.c driver.c "${wanted[@]}"
+"$out/bits"
+
+garbage=(garbage.c garbage_set_up.c garbage_draw.c garbage_queries.c garbage_break.c garbage_break_configuration.c
+  garbage_break_records.c garbage_break_places.c "${wanted[@]}")
 build garbage -- "${garbage[@]}"
 "$out/garbage" "${1:-1}"
 

@@ -108,7 +108,10 @@ fn any_guest(random: &mut Random, configuration: &Configuration) -> Guest {
     Guest(random.below(u64::from(count)) as u8)
 }
 
-/// A number not below the guest count.
+/// A number not below the guest count: near it, one in use with a higher bit set, or any.
 fn no_guest(random: &mut Random, count: u8) -> Guest {
-    Guest(random.pick(&[count, count.max(4), 255]))
+    let in_use = random.below(u64::from(count.max(1))) as u8;
+    let with_a_bit = in_use | 1 << (2 + random.below(6));
+    let any = count + random.below(256 - u64::from(count)) as u8;
+    Guest(random.pick(&[count, count.max(4), 255, with_a_bit, with_a_bit, any]))
 }

@@ -12,13 +12,13 @@
 static struct met met;
 static uint64_t met_ways[WAYS_MOST];
 
-/* A call on a copy of the device, so that what it leaves is left behind. */
-static void on_copy(struct random *r, const struct device *copy, enum soundness soundness)
+/* A call on a copy of the damaged device, so that what it leaves is left behind. */
+static void on_copy(struct random *r, const struct device *copy)
 {
     static struct device d;
     d = *copy;
     struct call c = draw_call(r, &d);
-    try_call(&c, &d, soundness, &met);
+    try_call(&c, &d, soundness_of(&d), &met);
     try_queries(r, copy, &met);
 }
 
@@ -28,6 +28,7 @@ static void try_broken(struct random *r, struct device *copy)
     struct call c = draw_call(r, copy);
     size_t way = below(r, ways_to_break());
     if (broken(r, way, copy)) {
+        EXPECT(soundness_of(copy) == BROKEN);
         try_call(&c, copy, BROKEN, &met);
         met_ways[way]++;
     }
@@ -41,12 +42,13 @@ static void turn(struct random *r, struct device *d)
     try_call(&c, d, SOUND, &met);
     if (once_in(r, 2))
         return;
+    EXPECT(soundness_of(d) == SOUND);
     copy = *d;
     switch (below(r, 8)) {
-    case 0: damage_length(r, &copy); on_copy(r, &copy, UNKNOWN); break;
-    case 1: damage_all(r, &copy); on_copy(r, &copy, UNKNOWN); break;
+    case 0: damage_length(r, &copy); on_copy(r, &copy); break;
+    case 1: damage_all(r, &copy); on_copy(r, &copy); break;
     case 2:
-    case 3: damage_one_field(r, &copy); on_copy(r, &copy, UNKNOWN); break;
+    case 3: damage_one_field(r, &copy); on_copy(r, &copy); break;
     case 4: try_queries(r, &copy, &met); try_set_up(r, &after, &met); break;
     default: try_broken(r, &copy); break;
     }

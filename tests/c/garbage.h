@@ -57,10 +57,12 @@ int good(const struct viommu_settings *s, const struct lists *l);
 /* garbage_draw.c: a call that has a good chance of being worked on this device. */
 struct call draw_call(struct random *r, const struct device *d);
 
-/* garbage_wanted.c: bit n is set where 01 lets the call be answered n, by what is known of state and table; and the value
-   that goes with number 0. */
-enum soundness { SOUND, BROKEN, UNKNOWN };
-unsigned wanted_numbers(const struct call *c, const struct device *d, enum soundness soundness);
+/* garbage_sound.c: document 01's "State and table are sound when". */
+enum soundness { SOUND, BROKEN };
+enum soundness soundness_of(const struct device *d);
+
+/* garbage_wanted.c: the number that 01 asks for, and the value that goes with number 0. */
+unsigned wanted_number(const struct call *c, const struct device *d, enum soundness soundness);
 uint64_t wanted_value(const struct call *c, const struct device *d);
 
 /* garbage_effect.c: makes d what a call, answered so, is to leave it; a request answered OK leaves it to the rules. */
@@ -77,7 +79,16 @@ size_t ways_to_break(void);
 int broken(struct random *r, size_t way, struct device *d);
 const char *name_of_way(size_t way);
 
-/* garbage_damage.c: damage after which the device may or may not be sound. */
+/* A field of the state: where it starts, the bytes of an element, the number of elements. */
+struct field {
+    size_t offset;
+    size_t width;
+    size_t count;
+};
+
+/* garbage_damage.c: the fields of the state, up to one without elements; and damage after which the device may or may not be
+   sound. */
+extern const struct field fields[];
 void damage_one_field(struct random *r, struct device *d);
 void damage_length(struct random *r, struct device *d);
 void damage_all(struct random *r, struct device *d);

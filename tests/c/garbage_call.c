@@ -115,8 +115,7 @@ void try_call(const struct call *c, struct device *d, enum soundness soundness, 
     struct memory m = lend(c, d);
     struct outcome o = make(c, d, m);
     check_memory(c, d, m);
-    EXPECT(o.number < NUMBERS);
-    EXPECT(wanted_numbers(c, d, soundness) >> o.number & 1);
+    EXPECT(o.number == wanted_number(c, d, soundness));
     EXPECT(o.value == (o.number == VIOMMU_DONE ? wanted_value(c, d) : 0));
     size_t n = written(c, &o);
     EXPECT(memcmp(m.writable + n, c->writable + n, c->writable_bytes - n) == 0);

@@ -3,17 +3,10 @@
 
 #include "garbage.h"
 
-/* A field of the state: where it starts, the bytes of an element, the number of elements. */
-struct field {
-    size_t offset;
-    size_t width;
-    size_t count;
-};
-
 #define ONE(name) {offsetof(struct viommu_state, name), sizeof ((struct viommu_state *)0)->name, 1}
 #define MANY(name, n) {offsetof(struct viommu_state, name), sizeof ((struct viommu_state *)0)->name / (n), (n)}
 
-static const struct field fields[] = {
+const struct field fields[] = {
     ONE(settings.guests),
     MANY(settings.shares, VIOMMU_GUESTS),
     MANY(settings.firsts, VIOMMU_GUESTS),
@@ -35,9 +28,10 @@ static const struct field fields[] = {
     MANY(flags, VIOMMU_FAULT_PLACES),
     MANY(sources, VIOMMU_FAULT_PLACES),
     MANY(addresses, VIOMMU_FAULT_PLACES),
+    {0, 0, 0},
 };
 
-#define FIELDS (sizeof fields / sizeof *fields)
+#define FIELDS (sizeof fields / sizeof *fields - 1)
 
 /* The low bytes of the number at an element of the field; x86-64 has the low byte first. */
 static void store(struct viommu_state *s, struct field f, size_t i, uint64_t number)
@@ -45,7 +39,18 @@ static void store(struct viommu_state *s, struct field f, size_t i, uint64_t num
     memcpy((uint8_t *)s + f.offset + i * f.width, &number, f.width);
 }
 
-/* One element of a field of the state, or one word of the table, becomes another number: near to it or anything. */
+/* Another number for one of so many bits: near to it, at a limit or any, with one bit changed, or with its low half alone. */
+static uint64_t changed(struct random *r, uint64_t old, size_t bits)
+{
+    switch (below(r, 4)) {
+    case 0: return old + below(r, 5) - 2;
+    case 1: return edge(r);
+    case 2: return old ^ (uint64_t)1 << below(r, bits);
+    default: return old ^ draw(r) << bits / 2;
+    }
+}
+
+/* One element of a field of the state, or one word of the table, becomes another number. */
 void damage_one_field(struct random *r, struct device *d)
 {
     size_t which = below(r, FIELDS + 4);
@@ -54,12 +59,12 @@ void damage_one_field(struct random *r, struct device *d)
         size_t i = below(r, f.count);
         uint64_t old = 0;
         memcpy(&old, (uint8_t *)&d->state + f.offset + i * f.width, f.width);
-        store(&d->state, f, i, once_in(r, 2) ? old + below(r, 5) - 2 : edge(r));
+        store(&d->state, f, i, changed(r, old, 8 * f.width));
         return;
     }
     size_t words = VIOMMU_RECORD_WORDS * (d->state.live <= VIOMMU_RECORDS ? d->state.live : VIOMMU_RECORDS);
     size_t i = words > 0 && !once_in(r, 4) ? below(r, words) : below(r, VIOMMU_TABLE_WORDS);
-    d->table[i] = once_in(r, 2) ? d->table[i] + below(r, 5) - 2 : edge(r);
+    d->table[i] = changed(r, d->table[i], 64);
 }
 
 /* A table that is not of 1,280 words, or now and then is. */

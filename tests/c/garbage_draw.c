@@ -124,6 +124,15 @@ static void aim(struct random *r, const struct device *d, struct call *c)
             c->endpoint.number = s->endpoints[i];
 }
 
+/* A guest, or now and then a number near to the last, or a guest's with one bit more. */
+static uint8_t draw_guest(struct random *r, const struct viommu_state *s)
+{
+    uint8_t guest = (uint8_t)below(r, VIOMMU_GUESTS);
+    if (s->settings.guests > 0 && !once_in(r, 16))
+        return (uint8_t)(guest % s->settings.guests);
+    return (uint8_t)(once_in(r, 2) ? guest + 1u : guest | 1u << below(r, 8));
+}
+
 struct call draw_call(struct random *r, const struct device *d)
 {
     static const enum entry entries[] = {REQUEST, REQUEST, REQUEST, REQUEST, ACCESS, ACCESS, FETCH};
@@ -131,9 +140,7 @@ struct call draw_call(struct random *r, const struct device *d)
     struct call c;
     memset(&c, 0, sizeof c);
     c.entry = once_in(r, 128) ? RESET : entries[below(r, sizeof entries / sizeof *entries)];
-    c.guest.number = (uint8_t)(once_in(r, 24) ? edge(r) : below(r, VIOMMU_GUESTS + 1));
-    if (s->settings.guests > 0 && !once_in(r, 16))
-        c.guest.number = (uint8_t)(c.guest.number % s->settings.guests);
+    c.guest.number = draw_guest(r, s);
     c.endpoint.number = draw_endpoint(r, s, c.guest.number);
     c.address = once_in(r, 8) ? edge(r) : draw_address(r, s);
     c.kind = (uint8_t)(once_in(r, 8) ? draw(r) : below(r, 2));

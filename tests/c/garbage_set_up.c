@@ -45,7 +45,7 @@ static void spoil(struct random *r, struct viommu_settings *s, struct lists *l)
 {
     size_t g = below(r, VIOMMU_GUESTS);
     switch (below(r, 12)) {
-    case 0: s->guests = edge(r); break;
+    case 0: s->guests = once_in(r, 2) ? edge(r) : s->guests | (size_t)1 << below(r, 64); break;
     case 1: s->shares[g] = (uint32_t)edge(r); break;
     case 2: s->firsts[g] = edge(r); break;
     case 3: s->lasts[g] = edge(r); break;
@@ -82,7 +82,7 @@ static void check_table(const uint64_t *table, const struct device *d, int done)
 }
 
 /* "Set-up: 2 (length), then 5." */
-static uint8_t wanted_number(const struct viommu_settings *s, const struct lists *l, size_t words)
+static uint8_t set_up_number(const struct viommu_settings *s, const struct lists *l, size_t words)
 {
     if (words != VIOMMU_TABLE_WORDS)
         return VIOMMU_UNSOUND;
@@ -105,7 +105,7 @@ static int call_set_up(struct viommu_settings s, const struct lists *l, struct d
     int done = given.number == VIOMMU_DONE;
     struct viommu_state wanted;
     memset(&wanted, 0, sizeof wanted);
-    EXPECT(given.number == wanted_number(&s, l, d->words));
+    EXPECT(given.number == set_up_number(&s, l, d->words));
     if (done)
         wanted = started(s, l);
     EXPECT(memcmp(&given.state, &wanted, sizeof wanted) == 0);

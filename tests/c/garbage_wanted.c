@@ -4,11 +4,6 @@
 /* The length of a request's readable part, by type. */
 static const size_t readable_lengths[] = {0, 20, 20, 36, 28};
 
-static unsigned bit(unsigned number)
-{
-    return 1u << number;
-}
-
 /* "4 (below 4 bytes), 3, 4 (lengths)" */
 static unsigned request_number(const struct call *c)
 {
@@ -64,18 +59,11 @@ static unsigned sound_number(const struct call *c, const struct device *d)
     return c->entry == ACCESS ? access_number(c, d) : VIOMMU_DONE;
 }
 
-/* A device that is not known to be sound may be, if its counts are in range; then it is answered as a sound one. */
-unsigned wanted_numbers(const struct call *c, const struct device *d, enum soundness soundness)
+unsigned wanted_number(const struct call *c, const struct device *d, enum soundness soundness)
 {
     if (c->entry != ACCESS && c->guest.number >= d->state.settings.guests)
-        return bit(VIOMMU_NO_SUCH_GUEST);
-    if (d->words != VIOMMU_TABLE_WORDS || soundness == BROKEN)
-        return bit(VIOMMU_UNSOUND);
-    if (soundness == SOUND)
-        return bit(sound_number(c, d));
-    if (d->state.listed > VIOMMU_ENDPOINTS || d->state.live > VIOMMU_RECORDS)
-        return bit(VIOMMU_UNSOUND);
-    return bit(VIOMMU_UNSOUND) | bit(sound_number(c, d));
+        return VIOMMU_NO_SUCH_GUEST;
+    return soundness == SOUND ? sound_number(c, d) : VIOMMU_UNSOUND;
 }
 
 /* The used length, the address, or the fetched count: the smaller of the faults held and those that fit whole. */

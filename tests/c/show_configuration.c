@@ -4,6 +4,8 @@
    zero. */
 #include "show_configuration.h"
 
+#include <stdio.h>
+
 #include "shown.h"
 
 /* The first so many of endpoints 8 and 9, and of their owners, guests 0 and 1. */
@@ -142,7 +144,48 @@ static void show_endpoints(const char *what, struct viommu_settings good, size_t
     set_up(what, good, l);
 }
 
-/* The good configuration, then its clauses, and at last as many endpoints as the state has places for, and one more. */
+/* Numbers that by their low 8, 16, 24 or 32 bits alone would be good ones, or two of them the same one. */
+static void show_wide(struct viommu_settings good)
+{
+    struct viommu_settings c = good;
+    c.guests = ((size_t)1 << 32) + 1;
+    set_up("guest count 2^32 + 1", c, listed(1, 1));
+    c.guests = ((size_t)1 << 8) + 2;
+    with("guest count 2^8 + 2", c);
+    c = good;
+    c.shares[1] = 0x10004;
+    with("a share of 2^16 + 4", c);
+    c = good;
+    c.firsts[1] += (uint64_t)1 << 32;
+    with("first above last by its high half", c);
+    c = good;
+    c.input.start = (uint64_t)1 << 63;
+    with("input start above end by its high bit", c);
+    c = good;
+    c.domains.start = 0x10001;
+    with("domain start above end by its high half", c);
+}
+
+/* The same of the lists: an owner, and endpoints 8 and 8 and a bit more, which are two. */
+static void show_wide_lists(struct viommu_settings good)
+{
+    static const uint8_t owners[] = {4, 16, 17, 32, 64, 128, 129, 255};
+    for (size_t i = 0; i < sizeof owners; i++) {
+        char what[16];
+        struct lists l = listed(2, 2);
+        l.owners[1] = owners[i];
+        snprintf(what, sizeof what, "owner %u", owners[i]);
+        set_up(what, good, l);
+    }
+    struct lists l = listed(2, 2);
+    l.endpoints[1] = 0x01000008;
+    set_up("endpoints 8 and 2^24 + 8", good, l);
+    l.endpoints[1] = 0x00010008;
+    set_up("endpoints 8 and 2^16 + 8", good, l);
+}
+
+/* The good configuration, then its clauses, as many endpoints as the state has places for and one more, and numbers that are
+   not good in their high bits alone. */
 int main(void)
 {
     const struct viommu_settings good = shown_settings();
@@ -158,5 +201,7 @@ int main(void)
     show_lists(good);
     show_endpoints("32 endpoints", good, 32);
     show_endpoints("33 endpoints", good, 33);
+    show_wide(good);
+    show_wide_lists(good);
     return 0;
 }

@@ -17,7 +17,7 @@ static void make_sound(struct driver *d)
     EXPECT(reach(d, 8, 0x5000, VIOMMU_READ).number == VIOMMU_UNMAPPED);
 }
 
-/* The sound device, then the clauses in the order of the rules. */
+/* The sound device, then the clauses in the order of the rules, then numbers that are wrong in their high bits alone. */
 int main(void)
 {
     static struct driver sound;
@@ -27,5 +27,6 @@ int main(void)
     show_records(&sound);
     show_places(&sound);
     show_faults(&sound);
+    show_wide(&sound);
     return 0;
 }

@@ -12,5 +12,6 @@ void show_settings(const struct driver *sound);
 void show_records(const struct driver *sound);
 void show_places(const struct driver *sound);
 void show_faults(const struct driver *sound);
+void show_wide(const struct driver *sound);
 
 #endif

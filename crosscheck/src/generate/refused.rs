@@ -1,6 +1,6 @@
 //! Starts that are refused, each for one cause, and the calls that run on after them.
 
-use super::{any_guest, set_up, setup};
+use super::{any_guest, no_guest, set_up, setup};
 use crate::config::{Configuration, GuestShare, ListedEndpoint};
 use crate::generate::calls::CallMaker;
 use crate::numbers::{Endpoint, Guest};
@@ -12,7 +12,7 @@ use std::ops::RangeInclusive;
 pub fn journal(random: &mut Random) -> Vec<Record> {
     let good = setup::sound(random);
     let mut configuration = good.clone();
-    match random.below(12) {
+    match random.below(13) {
         0 => no_guests(random, &mut configuration),
         1 => reversed_window(random, &mut configuration),
         2 | 3 => touching_windows(random, &mut configuration),
@@ -20,7 +20,7 @@ pub fn journal(random: &mut Random) -> Vec<Record> {
         6 => configuration.page_size_mask = 0,
         7 => configuration.input_range = reversed(random, 0, u64::MAX),
         8 => configuration.domain_range = reversed(random, 0, u32::MAX),
-        9 | 10 => owner_not_in_use(random, &mut configuration),
+        9..=11 => owner_not_in_use(random, &mut configuration),
         _ => endpoint_twice(random, &mut configuration),
     }
     let mut records = set_up(random, &configuration);
@@ -76,7 +76,7 @@ fn too_large_shares(random: &mut Random, configuration: &mut Configuration) {
 
 /// An endpoint owned by a guest that is not there.
 fn owner_not_in_use(random: &mut Random, configuration: &mut Configuration) {
-    let owner = Guest(random.pick(&[configuration.guests.len() as u8, 4, 255]));
+    let owner = no_guest(random, configuration.guests.len() as u8);
     configuration.endpoints.truncate(31);
     let endpoint = Endpoint(0x7777_7777);
     configuration.endpoints.push(ListedEndpoint { endpoint, owner });
