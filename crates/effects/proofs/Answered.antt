@@ -214,7 +214,7 @@ module _ (d : Device) (h : sound d ≡ true) (k : Shaped (d .state)) where
       n = fetchCount (d .state) g (length b)
 
       log-is : part (configOf (d .state)) g (read d) .log ≡ logAt (d .state) (g .0)
-      log-is = unfold part in log-read d h (g .0) below
+      log-is = unfold part in log-read d (g .0) (unfold configOf in below)
 
       count : fetchable (part (configOf (d .state)) g (read d) .log) b ≡ n
       count = ap (λ (q : Log). fetchable q b) log-is ∙ ap (λ i. min i (length b / faultSize)) (length-tab (getD (d .state .logged) (g .0) 0) (λ j. faultAt (d .state) (maxFaults * g .0 + j)))

@@ -14,7 +14,6 @@ use borrow.Author.Tests.{lt-ltb, le-ltb, le-leb, leb-true, eqb-true, not-true, n
 use Rattle.laws.specs.Lists.{all?, firstFailing}
 use Rattle.laws.proofs.Tests.{nor, Clear, cleared}
 use Rattle.laws.proofs.Filters.{all-imp, found}
-use Rattle.laws.proofs.Tables.{below-at}
 use Rattle.rules.specs.declared.Guest.{Guest}
 use Rattle.rules.specs.declared.Endpoint.{Endpoint}
 use Rattle.rules.specs.declared.State.{State}
@@ -32,13 +31,14 @@ use Rattle.rules.specs.Guests.{own, part, recordsOf}
 use Rattle.rules.specs.Requests.{ATTACH, UNMAP, requestRefusals, typeOf, writableLength, domainField, endpointField, attachReserved}
 use Rattle.rules.specs.Handlers.{outside, formSteps}
 use Rattle.rules.specs.Access.{permits, findMapping}
-use Rattle.rules.specs.Sound.{guest, sound}
+use Rattle.rules.specs.Sound.{guest, sound, recordGood}
 use Rattle.rules.specs.Device.{Job, request, reset, fetch, of-guest, access-by, Reply, lentFor, refusedWith, step}
-use Rattle.rules.proofs.Parts.{outside-high, record-form, recordOk}
+use Rattle.rules.proofs.Parts.{outside-high, record-form}
+use Rattle.rules.proofs.Records.{all-guests}
 use Rattle.rules.proofs.Worlds.{Whole}
 use Rattle.rules.proofs.Accesses.{permits-covers}
-use Rattle.rules.proofs.Reading.{tests, sound-good, sound-whole}
-use Rattle.rules.proofs.Soundness.{all-guests}
+use Rattle.rules.proofs.Reading.{sound-good, sound-whole}
+use Rattle.rules.proofs.Groups.{sound-facts}
 use Rattle.state.specs.Pieces.{Shaped}
 use Rattle.layouts.specs.declared.request.Request.{Request}
 use Rattle.layouts.specs.declared.request.Request.the-variants.{Attach, Detach, Map, Unmap}
@@ -119,7 +119,7 @@ module _ (s : State) (ws : List ℕ) (h : sound (device s ws) ≡ true) (k : Sha
   listed-fits = small-count (device s ws) h k
 
   pub live-fits : s .live ≤ maxRecords
-  live-fits = leb-true (s .live) maxRecords (tests (device s ws) h .1 .1 .1 .0)
+  live-fits = sound-facts (device s ws) h .frame .live
 
   pub few-guests : s .settings .guests ≤ maxGuests
   few-guests = unfold configOf in sound-good (device s ws) h .guests .1
@@ -127,7 +127,7 @@ module _ (s : State) (ws : List ℕ) (h : sound (device s ws) ≡ true) (k : Sha
   -- a log's count is within its limit, and what is fetched fits
   pub count-fits : (g : Guest) → g .0 < s .settings .guests → (b : List ℕ) (n : ℕ) → n ≡ fetchCount s g (length b) → (n ≤ maxFaults) × (faultSize * n ≤ length b)
   count-fits g l b n e =
-      let held = leb-true (getD (s .logged) (g .0) 0) maxFaults (below-at (configOf s .settings .guests) (λ i. leb (getD (s .logged) i 0) maxFaults) (g .0) (tests (device s ws) h .1 .1 .1 .1 .1 .1 .1 .1 .1 .1 .0) (unfold configOf in l)) in
+      let held = sound-facts (device s ws) h .places .counts (g .0) l in
       let a = min-le-left (getD (s .logged) (g .0) 0) (length b / faultSize) in
       let c = min-le-right (getD (s .logged) (g .0) 0) (length b / faultSize) in
       (omega (arith, held, a, e), omega (arith, c, e))
@@ -147,7 +147,7 @@ module _ (s : State) (ws : List ℕ) (h : sound (device s ws) ≡ true) (k : Sha
     all-land : all? (λ r. leb (r .phys + r .end - r .start) 18446744073709551615) (read (device s ws) .records) ≡ true
     all-land =
         all-guests (configOf s .settings .guests) (λ n r. leb (r .phys + r .end - r .start) 18446744073709551615) (read (device s ws) .records) (whole .guests)
-        (λ n l. unfold part in all-imp (recordOk (own (configOf s) (guest n)) (part (configOf s) (guest n) (read (device s ws)) .attachments)) (λ r. leb (r .phys + r .end - r .start) 18446744073709551615) (recordsOf (guest n) (read (device s ws) .records)) (λ r o. form-lands n r (record-form (own (configOf s) (guest n)) (part (configOf s) (guest n) (read (device s ws)) .attachments) r o)) (whole .parts (guest n) l .records))
+        (λ n l. unfold part in all-imp (recordGood (own (configOf s) (guest n)) (part (configOf s) (guest n) (read (device s ws)) .attachments)) (λ r. leb (r .phys + r .end - r .start) 18446744073709551615) (recordsOf (guest n) (read (device s ws) .records)) (λ r o. form-lands n r (record-form (own (configOf s) (guest n)) (part (configOf s) (guest n) (read (device s ws)) .attachments) r o)) (whole .parts (guest n) l .records))
 
     pub lands-fit : (x : Access) (key : ℕ) (r : Mapping) → findMapping key x (take (s .live) (records ws)) ≡ some r → x .address - r .start + r .phys ≤ 18446744073709551615
     lands-fit x key r e =

@@ -1,5 +1,5 @@
 -- Endpoints that leave and enter domains, on the arrays and words, against the rules on the guest's part.
-use Prim.Native.Nat.{ℕ, _-_, _/_, _^_, _≤_, _<_}
+use Prim.Native.Nat.{ℕ, _-_, _/_, _≤_, _<_}
 use mathlib.Core.Path.{_≡_, refl, sym, ap, _∙_}
 use mathlib.Core.Bool.{Bool, true, false, cond, not, _&&_, _||_}
 use mathlib.Core.List.{List, [], _∷_}
@@ -10,7 +10,7 @@ use lib.ListN.{length, getD, set, length-set}
 use lib.Seq.{set-getD, set-set}
 use borrow.Author.Tests.{ltb-true, leb-true, eqb-true, eq-eqb, le-leb}
 use Rattle.laws.specs.Lists.{all?, keep, pickBy, weaveBy}
-use Rattle.laws.proofs.Tests.{both, both-left, both-right, true-false, same-test, nor, opened, Clear}
+use Rattle.laws.proofs.Tests.{both, both-left, both-right, true-false, same-test, nor, Clear}
 use Rattle.laws.proofs.Filters.{all-imp}
 use Rattle.laws.proofs.Tables.{getD-tab}
 use Rattle.laws.proofs.Owners.{weave-pick, pick-weave}
@@ -20,19 +20,19 @@ use Rattle.rules.specs.declared.Domain.{Domain}
 use Rattle.rules.specs.declared.State.{State}
 use Rattle.rules.specs.declared.Mapping.{Mapping}
 use Rattle.rules.specs.Sizes.{domainSpan, maxEndpoints}
-use Rattle.rules.specs.Configuration.{Config, settingsTests, goodSettings, goodLists, good}
+use Rattle.rules.specs.Configuration.{Config}
 use Rattle.rules.specs.Table.{keyOf, guestOf}
 use Rattle.rules.specs.State.{Attachment, World, Device, noLog, flagOf, numberOf, stateOf, write}
 use Rattle.rules.specs.Guests.{Own, Part, own, part, replace, recordsOf, withRecordsOf}
 use Rattle.rules.specs.Handlers.{outside, isIn, exists, listed, attachmentOf, attachedAs, ofKey, without, leave, enter, attached, formSteps}
-use Rattle.rules.specs.Sound.{guest}
+use Rattle.rules.specs.Sound.{guest, recordGood}
 use Rattle.rules.specs.Device.{ownerOf, is}
-use Rattle.rules.proofs.Records.{mine, key-guest}
+use Rattle.rules.proofs.Records.{mine, key-guest, all-guests}
 use Rattle.rules.proofs.Attachments.{length-attachedAs}
-use Rattle.rules.proofs.Parts.{recordOk, record-form, outside-high}
-use Rattle.rules.proofs.Worlds.{Good, good-facts, Whole}
+use Rattle.rules.proofs.Groups.{Good, good-facts}
+use Rattle.rules.proofs.Parts.{record-form, outside-high}
+use Rattle.rules.proofs.Worlds.{Whole}
 use Rattle.rules.proofs.Shares.{fits}
-use Rattle.rules.proofs.Soundness.{all-guests}
 use Rattle.rules.proofs.Writing.{kept}
 use Rattle.removal.specs.Removed.{within}
 use Rattle.attachments.specs.Changes.{attachedAt}
@@ -77,7 +77,7 @@ module _ (c : Config) (w : World) (h : Whole c w) (g : Guest) where
 
 module _ (c : Config) (w : World) (h : Whole c w) where
   top : c .settings .input .end ≤ topAddress
-  top = unfold good goodSettings in (let t = opened (settingsTests (c .settings)) (both-left (goodSettings (c .settings)) (goodLists (c .settings) (c .endpoints) (c .owners)) (h .config)) in omega (arith, ltb-true (c .settings .input .end) (2 ^ 64) (t .1 .1 .1 .1 .1 .1 .1 .1 .0)))
+  top = omega (arith, good-facts c (h .config) .top)
 
   -- by the guest's facts
   form-end : (g : Guest) (r : Mapping) → Clear (formSteps (own c g) r) → leb (r .end) topAddress ≡ true
@@ -88,7 +88,7 @@ module _ (c : Config) (w : World) (h : Whole c w) where
       le-leb (r .end) topAddress (omega (arith, outside-high a b (r .end) (nor (outside a b (r .start)) (outside a b (r .end)) (f .1 .1 .1 .0) .1), top))
 
   pub ends : all? (λ r. leb (r .end) topAddress) (w .records) ≡ true
-  ends = all-guests (c .settings .guests) (λ n r. leb (r .end) topAddress) (w .records) (h .guests) (λ n l. unfold part in all-imp (recordOk (own c (guest n)) (part c (guest n) w .attachments)) (λ r. leb (r .end) topAddress) (recordsOf (guest n) (w .records)) (λ r k. form-end (guest n) r (record-form (own c (guest n)) (part c (guest n) w .attachments) r k)) (h .parts (guest n) l .records))
+  ends = all-guests (c .settings .guests) (λ n r. leb (r .end) topAddress) (w .records) (h .guests) (λ n l. unfold part in all-imp (recordGood (own c (guest n)) (part c (guest n) w .attachments)) (λ r. leb (r .end) topAddress) (recordsOf (guest n) (w .records)) (λ r k. form-end (guest n) r (record-form (own c (guest n)) (part c (guest n) w .attachments) r k)) (h .parts (guest n) l .records))
 
 -- a record of the key is of the key's guest
 pub of-key-mine : (g : Guest) (dom : Domain) (r : Mapping) → dom .0 < domainSpan → ofKey (keyOf g dom) r ≡ true → guestOf r ≡ g .0

@@ -8,9 +8,8 @@ use native.Mathlib.Omega.{arith}
 use lib.Dec.{leb, ltb, eqb}
 use lib.ListN.{length, getD, set, drop, replicate, length-append, length-drop, List·getD-eq-default, List·getD-append}
 use lib.Seq.{getD-set-same, getD-set-other, getD-drop, getD-append-seam, set-getD}
-use borrow.Author.Tests.{ltb-true, ltb-false, eqb-true, eqb-false, le-ltb, leb-true}
+use borrow.Author.Tests.{ltb-true, ltb-false, eqb-true, eqb-false, le-ltb}
 use Rattle.laws.specs.Lists.{tab, weaveBy, pickBy}
-use Rattle.laws.proofs.Tests.{opened}
 use Rattle.laws.proofs.Tables.{getD-tab, tab-same}
 use Rattle.laws.proofs.Owners.{length-weave}
 use Rattle.rules.specs.declared.Guest.{Guest}
@@ -19,11 +18,11 @@ use Rattle.rules.specs.declared.Fault.{Fault}
 use Rattle.rules.specs.Sizes.{maxGuests, maxEndpoints, maxFaults, maxLost, faultPlaces}
 use Rattle.rules.specs.Configuration.{Config}
 use Rattle.rules.specs.State.{Attachment, Log, World, noFault, noLog, flagOf, numberOf, logOf, faultPlaced, stateOf}
-use Rattle.rules.specs.Guests.{own, part}
+use Rattle.rules.specs.Guests.{part}
 use Rattle.rules.specs.Access.{logged, fetchedFrom}
 use Rattle.rules.specs.Sound.{guest}
-use Rattle.rules.proofs.Parts.{logTests, logOk}
-use Rattle.rules.proofs.Worlds.{good-facts, Whole}
+use Rattle.rules.proofs.Groups.{good-facts}
+use Rattle.rules.proofs.Worlds.{Whole}
 use Rattle.state.specs.Fields.{withCounts}
 use Rattle.logging.specs.Changes.{faultStored, faultLogged}
 use Rattle.dropping.specs.Changes.{shifted, shiftedAll, faultsDropped}
@@ -80,7 +79,7 @@ module _ (c : Config) (w : World) (h : Whole c w) (g : ℕ) (m : g < c .settings
   few = omega (arith, m, good-facts c (h .config) .guests)
 
   room : length (logOf w g .faults) ≤ maxFaults
-  room = unfold part logOk in leb-true _ _ (opened (logTests (own c (guest g)) (logOf w g)) (h .parts (guest g) m .log) .0)
+  room = unfold part in h .parts (guest g) m .log .count
 
   count-is : getD (stateOf c w .logged) g 0 ≡ length (logOf w g .faults)
   count-is = unfold stateOf in getD-tab maxGuests (λ k. length (logOf w k .faults)) g 0 few

@@ -9,7 +9,7 @@ use lib.Dec.{leb, ltb, eqb}
 use lib.ListN.{length, getD, set, replicate}
 use borrow.Author.Tests.{ltb-true, leb-true, leb-false, eqb-true, eq-eqb, le-leb, not-true, not-false}
 use Rattle.laws.specs.Lists.{all?, any?, keep, pairwise, weaveBy}
-use Rattle.laws.proofs.Tests.{both, both-left, both-right, true-false, same-test, opened, Clear, clear-left, clear-right}
+use Rattle.laws.proofs.Tests.{both, both-left, both-right, true-false, same-test, Clear, clear-left, clear-right}
 use Rattle.laws.proofs.Filters.{keep-same}
 use Rattle.laws.proofs.Tables.{getD-tab}
 use Rattle.rules.specs.declared.Guest.{Guest}
@@ -20,18 +20,19 @@ use Rattle.rules.specs.declared.Settings.{Settings}
 use Rattle.rules.specs.declared.State.{State}
 use Rattle.rules.specs.declared.Fault.{Fault}
 use Rattle.rules.specs.Sizes.{domainSpan, maxEndpoints, maxRecords}
-use Rattle.rules.specs.Configuration.{Config, share, listTests, goodSettings, goodLists, good}
+use Rattle.rules.specs.Configuration.{Config, share}
 use Rattle.rules.specs.Table.{keyOf, guestOf, overlap, insertMapping, records}
 use Rattle.rules.specs.State.{Attachment, Log, World, Device, noLog, configOf, read, flagOf, numberOf, stateOf, write}
 use Rattle.rules.specs.Guests.{Part, own, part, replace, recordsOf, withRecordsOf, withRecords, withLog}
 use Rattle.rules.specs.Requests.{OK, INVAL, RANGE, NOENT, NOMEM}
 use Rattle.rules.specs.Handlers.{outside, isIn, exists, listed, attachmentOf, ofKey, without, leave, enter, moveFrom, attached, attachSteps, handleAttach, detachSteps, handleDetach, formSteps, recordSteps, mapSteps, handleMap, inside, straddles, unmapSteps, handleUnmap}
 use Rattle.rules.specs.Access.{afterReset, logged, fetchedFrom}
-use Rattle.rules.specs.Sound.{guest, sound}
+use Rattle.rules.specs.Sound.{guest, sound, inRange}
 use Rattle.rules.specs.Device.{ownerOf, is}
 use Rattle.rules.proofs.Records.{mine}
-use Rattle.rules.proofs.Parts.{Facts, inRange, outside-high, in-range}
-use Rattle.rules.proofs.Worlds.{Good, good-facts, Whole, same-guest}
+use Rattle.rules.proofs.Groups.{Good, good-facts, Facts}
+use Rattle.rules.proofs.Parts.{outside-high, in-range}
+use Rattle.rules.proofs.Worlds.{Whole, same-guest}
 use Rattle.rules.proofs.Words.{records-tableOf}
 use Rattle.rules.proofs.Shares.{fits}
 use Rattle.rules.proofs.Writing.{kept, config-back, read-write}
@@ -76,7 +77,7 @@ module _ (c : Config) (k : kept c ≡ c) (w : World) (h : Whole c w) (g : Guest)
   place-is e = ap (λ (x : Config). indexOf (e .0) (x .endpoints)) (config-back c w good-c)
 
   distinct : pairwise (λ a b. not (eqb a b)) (c .endpoints) ≡ true
-  distinct = unfold good goodLists in opened (listTests (c .settings) (c .endpoints) (c .owners)) (both-right (goodSettings (c .settings)) (goodLists (c .settings) (c .endpoints) (c .owners)) (h .config)) .1 .1 .1 .0
+  distinct = good-c .distinct
 
   owned-is : (e : Endpoint) → ownedAt (write c w .state) g (placeOfEndpoint (write c w .state) e) ≡ listed e (own c g .endpoints)
   owned-is e =

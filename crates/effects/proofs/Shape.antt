@@ -6,25 +6,25 @@ use mathlib.Core.List.{List, _++_}
 use mathlib.Core.Option.{none}
 use mathlib.Core.Logic.{_⊎_, inl, inr}
 use native.Mathlib.Omega.{arith}
-use lib.Dec.{leb, ltb, eqb}
+use lib.Dec.{ltb, eqb}
 use lib.ListN.{length, getD, take, drop, replicate, length-take, length-drop, List·getD-eq-default}
 use lib.Seq.{getD-take, getD-drop, length-take-le}
-use borrow.Author.Tests.{ltb-true, ltb-false, leb-true, eqb-true, le-ltb}
-use Rattle.laws.specs.Lists.{below, tab, pad}
-use Rattle.laws.proofs.Tests.{both-left, both-right, or-cases, Each, opened}
-use Rattle.laws.proofs.Tables.{below-at, length-tab, getD-tab, tab-is, all-at, replicate-is}
+use borrow.Author.Tests.{ltb-true, ltb-false, eqb-true, le-ltb}
+use Rattle.laws.specs.Lists.{tab, pad}
+use Rattle.laws.proofs.Tests.{both-left, both-right, or-cases}
+use Rattle.laws.proofs.Tables.{length-tab, getD-tab, tab-is, replicate-is}
 use Rattle.rules.specs.declared.State.{State}
 use Rattle.rules.specs.declared.Fault.{Fault}
-use Rattle.rules.specs.Sizes.{maxGuests, maxEndpoints, maxRecords, recordWords, tableWords, maxFaults, faultPlaces}
+use Rattle.rules.specs.Sizes.{maxGuests, maxEndpoints, recordWords, tableWords, maxFaults, faultPlaces}
 use Rattle.rules.specs.Configuration.{share, windowFirst, windowLast}
 use Rattle.rules.specs.Table.{records, words, tableOf}
 use Rattle.rules.specs.State.{Log, World, Device, noFault, noLog, configOf, attachment, attachmentAt, faultAt, logAt, read, trimmed, flagOf, numberOf, faultPlaced, stateOf}
 use Rattle.rules.specs.Handlers.{outside}
-use Rattle.rules.specs.Sound.{guest, attachmentGood, zeroFrom, faultZero, faultPlaceGood, unusedTests, sound}
+use Rattle.rules.specs.Sound.{guest, attachmentGood, zeroFrom, faultZero, faultPlaceGood, sound}
 use Rattle.rules.proofs.Words.{length-records, words-split}
 use Rattle.rules.proofs.Zeros.{zero-at}
-use Rattle.rules.proofs.Worlds.{Good}
-use Rattle.rules.proofs.Reading.{tests, sound-good, sound-listed}
+use Rattle.rules.proofs.Groups.{Unused, Sound, sound-facts}
+use Rattle.rules.proofs.Reading.{sound-good, sound-listed}
 use Rattle.state.specs.Pieces.{Shaped}
 
 -- a list by index with zero past n is the list that is zero there
@@ -54,13 +54,16 @@ module _ (d : Device) (h : sound d ≡ true) (k : Shaped (d .state)) where
   abbrev s : State
   s = d .state
 
-  unused : Each (unusedTests (d .state))
-  unused = opened (unusedTests (d .state)) (tests d h .1 .1 .1 .1 .1 .1 .1 .1 .1 .1 .1 .1 .0)
+  facts : Sound d
+  facts = sound-facts d h
+
+  unused : Unused (d .state)
+  unused = facts .places .unused
 
   pub settings-back : trimmed (s .settings) ≡ s .settings
   settings-back =
       unfold trimmed in
-      rw (kept-until maxGuests (s .settings .guests) (s .settings .shares) (k .shares) (unused .0), kept-until maxGuests (s .settings .guests) (s .settings .firsts) (k .firsts) (unused .1 .0), kept-until maxGuests (s .settings .guests) (s .settings .lasts) (k .lasts) (unused .1 .1 .0))
+      rw (kept-until maxGuests (s .settings .guests) (s .settings .shares) (k .shares) (unused .shares), kept-until maxGuests (s .settings .guests) (s .settings .firsts) (k .firsts) (unused .firsts), kept-until maxGuests (s .settings .guests) (s .settings .lasts) (k .lasts) (unused .lasts))
 
   pub small-count : s .listed ≤ maxEndpoints
   small-count = omega (arith, sound-listed d h, sound-good d h .few)
@@ -77,23 +80,23 @@ module _ (d : Device) (h : sound d ≡ true) (k : Shaped (d .state)) where
           (rw (none-flag), rw (none-flag, none-domain))
 
   at-listed : (i : ℕ) → i < s .listed → attachmentGood (configOf s) (getD (s .attached) i 0) (getD (s .domains) i 0) ≡ true
-  at-listed i l = below-at (s .listed) _ i (tests d h .1 .1 .1 .1 .1 .1 .1 .1 .1 .0) l
+  at-listed i l = facts .places .attachments i l
 
   attached-back : tab maxEndpoints (λ i. flagOf (getD (tab (s .listed) (attachmentAt s)) i none)) ≡ s .attached
-  attached-back = read-off maxEndpoints (s .listed) (attachmentAt s) none flagOf (s .attached) (k .attached) (unused .1 .1 .1 .1 .1 .1 .1 .0) refl (λ i l. flag-of _ _ (at-listed i l) .0)
+  attached-back = read-off maxEndpoints (s .listed) (attachmentAt s) none flagOf (s .attached) (k .attached) (unused .attached) refl (λ i l. flag-of _ _ (at-listed i l) .0)
 
   domains-back : tab maxEndpoints (λ i. numberOf (getD (tab (s .listed) (attachmentAt s)) i none)) ≡ s .domains
-  domains-back = read-off maxEndpoints (s .listed) (attachmentAt s) none numberOf (s .domains) (k .domains) (unused .1 .1 .1 .1 .1 .1 .1 .1 .0) refl (λ i l. flag-of _ _ (at-listed i l) .1)
+  domains-back = read-off maxEndpoints (s .listed) (attachmentAt s) none numberOf (s .domains) (k .domains) (unused .domains) refl (λ i l. flag-of _ _ (at-listed i l) .1)
 
   logged-back : tab maxGuests (λ g. length (getD (tab (s .settings .guests) (logAt s)) g noLog .faults)) ≡ s .logged
-  logged-back = read-off maxGuests (s .settings .guests) (logAt s) noLog (λ l. length (l .faults)) (s .logged) (k .logged) (unused .1 .1 .1 .0) refl (λ i l. length-tab (getD (s .logged) i 0) (λ j. faultAt s (maxFaults * i + j)))
+  logged-back = read-off maxGuests (s .settings .guests) (logAt s) noLog (λ l. length (l .faults)) (s .logged) (k .logged) (unused .logged) refl (λ i l. length-tab (getD (s .logged) i 0) (λ j. faultAt s (maxFaults * i + j)))
 
   lost-back : tab maxGuests (λ g. getD (tab (s .settings .guests) (logAt s)) g noLog .lost) ≡ s .lost
-  lost-back = read-off maxGuests (s .settings .guests) (logAt s) noLog (λ l. l .lost) (s .lost) (k .lost) (unused .1 .1 .1 .1 .0) refl (λ i l. refl)
+  lost-back = read-off maxGuests (s .settings .guests) (logAt s) noLog (λ l. l .lost) (s .lost) (k .lost) (unused .lost) refl (λ i l. refl)
 
   -- the fault placed at i is the one that stands there
   place-good : (i : ℕ) → i < faultPlaces → faultPlaceGood (configOf s) s i ≡ true
-  place-good i l = below-at faultPlaces (faultPlaceGood (configOf s) s) i (tests d h .1 .1 .1 .1 .1 .1 .1 .1 .1 .1 .1 .1 .1 .0) l
+  place-good i l = facts .logs .faults i l
 
   zero-fault : (f : Fault) → faultZero f ≡ true → f ≡ noFault
   zero-fault f z =
@@ -124,13 +127,13 @@ module _ (d : Device) (h : sound d ≡ true) (k : Shaped (d .state)) where
       go true x = ap (λ (q : Log). getD (q .faults) (i % maxFaults) noFault) (getD-tab (s .settings .guests) (logAt s) (i / maxFaults) noLog (ltb-true _ _ x)) ∙ held (ltb (i % maxFaults) (getD (s .logged) (i / maxFaults) 0)) refl
       go false x =
           ap (λ (q : Log). getD (q .faults) (i % maxFaults) noFault) (List·getD-eq-default (tab (s .settings .guests) (logAt s)) noLog (rw (length-tab (s .settings .guests) (logAt s)) (ltb-false _ _ x)))
-          ∙ sym (past-count i l (omega (arith, zero-at (s .settings .guests) (s .logged) (i / maxFaults) (unused .1 .1 .1 .0) (ltb-false _ _ x) (rw (k .logged) (omega arith)))))
+          ∙ sym (past-count i l (omega (arith, zero-at (s .settings .guests) (s .logged) (i / maxFaults) (unused .logged) (ltb-false _ _ x) (rw (k .logged) (omega arith)))))
 
   faults-back : (q : Fault → ℕ) (l : List ℕ) → length l ≡ faultPlaces → ((i : ℕ) → q (faultAt s i) ≡ getD l i 0) → tab faultPlaces (λ i. q (getD (getD (tab (s .settings .guests) (logAt s)) (i / maxFaults) noLog .faults) (i % maxFaults) noFault)) ≡ l
   faults-back q l e f = tab-is faultPlaces _ l 0 e (λ i m. ap q (placed-back i m) ∙ f i)
 
   live-back : length (take (s .live) (records (d .table))) ≡ s .live
-  live-back = length-take-le (s .live) (records (d .table)) (rw (length-records (d .table), eqb-true (length (d .table)) tableWords (tests d h .0)) (leb-true (s .live) maxRecords (tests d h .1 .1 .1 .0)))
+  live-back = length-take-le (s .live) (records (d .table)) (rw (length-records (d .table), facts .frame .words) (facts .frame .live))
 
   -- the state and the table written back are those that were read
   pub state-back : stateOf (configOf (d .state)) (read d) ≡ d .state
@@ -139,8 +142,8 @@ module _ (d : Device) (h : sound d ≡ true) (k : Shaped (d .state)) where
       rw (
         settings-back,
         sound-listed-here,
-        padded maxEndpoints (s .listed) (s .endpoints) (k .endpoints) (unused .1 .1 .1 .1 .1 .0),
-        padded maxEndpoints (s .listed) (s .owners) (k .owners) (unused .1 .1 .1 .1 .1 .1 .0),
+        padded maxEndpoints (s .listed) (s .endpoints) (k .endpoints) (unused .endpoints),
+        padded maxEndpoints (s .listed) (s .owners) (k .owners) (unused .owners),
         attached-back,
         domains-back,
         live-back,
@@ -158,12 +161,12 @@ module _ (d : Device) (h : sound d ≡ true) (k : Shaped (d .state)) where
   zeros-after : drop (recordWords * s .live) (d .table) ≡ replicate (tableWords - recordWords * s .live) 0
   zeros-after =
       sym (replicate-is (tableWords - recordWords * s .live) 0 (drop (recordWords * s .live) (d .table)) size
-      (λ i l. getD-drop (recordWords * s .live) (d .table) i 0 ∙ zero-at (recordWords * s .live) (d .table) (recordWords * s .live + i) (tests d h .1 .1 .1 .1 .1 .0) (omega arith) (omega (arith, l, eqb-true (length (d .table)) tableWords (tests d h .0)))))
+      (λ i l. getD-drop (recordWords * s .live) (d .table) i 0 ∙ zero-at (recordWords * s .live) (d .table) (recordWords * s .live + i) (facts .records .zeros) (omega arith) (omega (arith, l, facts .frame .words))))
     where
       size : length (drop (recordWords * s .live) (d .table)) ≡ tableWords - recordWords * s .live
-      size = simp length-drop (omega (arith, eqb-true (length (d .table)) tableWords (tests d h .0)))
+      size = simp length-drop (omega (arith, facts .frame .words))
 
   pub table-back : tableOf (read d .records) ≡ d .table
   table-back =
       unfold tableOf read in
-      (rw live-back (ap (λ (z : List ℕ). words (take (s .live) (records (d .table))) ++ z) (sym zeros-after) ∙ words-split (s .live) (d .table) (omega (arith, eqb-true (length (d .table)) tableWords (tests d h .0), leb-true (s .live) maxRecords (tests d h .1 .1 .1 .0)))))
+      (rw live-back (ap (λ (z : List ℕ). words (take (s .live) (records (d .table))) ++ z) (sym zeros-after) ∙ words-split (s .live) (d .table) (omega (arith, facts .frame .words, facts .frame .live))))

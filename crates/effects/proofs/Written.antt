@@ -21,7 +21,7 @@ use Rattle.rules.specs.Configuration.{Config}
 use Rattle.rules.specs.Table.{insertMapping, records, tableOf}
 use Rattle.rules.specs.State.{Attachment, Log, World, flagOf, numberOf, stateOf, write}
 use Rattle.rules.specs.Handlers.{isIn, exists}
-use Rattle.rules.proofs.Worlds.{Good}
+use Rattle.rules.proofs.Groups.{Good}
 use Rattle.rules.proofs.Records.{length-insert}
 use Rattle.rules.proofs.Words.{records-tableOf}
 use Rattle.removal.specs.Removed.{within, keptOf}

@@ -22,17 +22,18 @@ use Rattle.rules.specs.declared.Cause.the-variants.{Unattached, Unmapped
 use Rattle.rules.specs.Sizes.{domainSpan}
 use Rattle.rules.specs.Answers.{number, addressOf}
 use Rattle.rules.specs.Configuration.{Config}
-use Rattle.rules.specs.Table.{keyOf, mapping, overlap, guestOf}
+use Rattle.rules.specs.Table.{keyOf, mapping, overlap, guestOf, apart}
 use Rattle.rules.specs.State.{Attachment, World, Device, configOf, read}
 use Rattle.rules.specs.Guests.{Own, Part, own, part}
 use Rattle.rules.specs.Handlers.{outside, attachmentOf, ofKey, formSteps}
 use Rattle.rules.specs.Access.{hasFlag, permits, blocked, translated, findMapping, decided, access}
-use Rattle.rules.specs.Sound.{sound}
+use Rattle.rules.specs.Sound.{sound, recordGood, inRange}
 use Rattle.rules.specs.Device.{access-by, Reply, rule, caller, owns, is, step}
 use Rattle.rules.specs.Claims.{Permitting, attachedTo, GoesTo}
-use Rattle.rules.proofs.Records.{apart, mine, key-guest}
-use Rattle.rules.proofs.Parts.{Facts, inRange, recordOk, record-form, outside-high}
-use Rattle.rules.proofs.Worlds.{good-facts, Whole, caller-below, step-mine}
+use Rattle.rules.proofs.Records.{mine, key-guest}
+use Rattle.rules.proofs.Parts.{record-form, outside-high}
+use Rattle.rules.proofs.Groups.{good-facts, Facts}
+use Rattle.rules.proofs.Worlds.{Whole, caller-below, step-mine}
 use Rattle.rules.proofs.Reading.{sound-whole}
 use Rattle.rules.proofs.Steps.{reply-of}
 
@@ -114,8 +115,8 @@ access-lands o p x f = go (attachmentOf (x .endpoint) (o .endpoints) (p .attachm
     hit d none i = unfold translated blocked in (λ n. absurd (omega arith))
     hit d (some r) i = unfold translated in (λ n. lands o (keyOf (o .guest) d) x r (record-form o (p .attachments) r (q .1)) (q .0))
       where
-        q : (permits (keyOf (o .guest) d) x r ≡ true) × (recordOk o (p .attachments) r ≡ true)
-        q = found (permits (keyOf (o .guest) d) x) (recordOk o (p .attachments)) (p .records) r (unfold findMapping in i) (f .records)
+        q : (permits (keyOf (o .guest) d) x r ≡ true) × (recordGood o (p .attachments) r ≡ true)
+        q = found (permits (keyOf (o .guest) d) x) (recordGood o (p .attachments)) (p .records) r (unfold findMapping in i) (f .records)
 
     go : (a : Attachment) → Lands (decided o p x a .0)
     go none = unfold decided blocked in (λ n. absurd (omega arith))

@@ -24,7 +24,8 @@ use Rattle.rules.specs.Sound.{sound}
 use Rattle.rules.specs.Device.{Call, access-by, Reply, refusedWith, rule, caller, owns, is, numbered, work, step, setUp}
 use Rattle.rules.specs.History.{noTally}
 use Rattle.rules.specs.Claims.{holds, Apart, GuestsApart, WithinWindow, AccessesStayInside, HeldIsHistory, SetUpIsSound, CallsKeepSound, NeverUnsound, OnlyWhenPermitted, WheneverPermitted}
-use Rattle.rules.proofs.Worlds.{good-facts, Whole, caller-below, performedWorld, stepWorld, step-keeps, step-other, step-mine}
+use Rattle.rules.proofs.Worlds.{Whole, caller-below, performedWorld, stepWorld, step-keeps, step-other, step-mine}
+use Rattle.rules.proofs.Groups.{good-facts}
 use Rattle.rules.proofs.Writing.{read-write}
 use Rattle.rules.proofs.Soundness.{write-sound}
 use Rattle.rules.proofs.Steps.{step-sound, step-write, after-write, given-write, set-up-write, set-up-whole}

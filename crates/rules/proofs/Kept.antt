@@ -1,23 +1,22 @@
 -- The configuration as a state holds it says the same as the one that set-up was given.
 use Prim.Native.Nat.{ℕ, _≤_, _<_}
 use mathlib.Core.Path.{_≡_, refl, _∙_}
-use mathlib.Core.Bool.{Bool, true, false, cond, not}
+use mathlib.Core.Bool.{Bool, true, false, cond}
 use mathlib.Core.List.{List}
 use native.Mathlib.Omega.{arith}
-use lib.Dec.{leb, ltb}
+use lib.Dec.{ltb}
 use lib.ListN.{getD}
 use borrow.Author.Tests.{lt-ltb}
-use Rattle.laws.specs.Lists.{below, sumBelow, tab}
-use Rattle.laws.proofs.Tests.{both, both-left, both-right, opened, closed}
-use Rattle.laws.proofs.Tables.{below-at, below-all, getD-tab, tab-same, sum-same}
+use Rattle.laws.specs.Lists.{sumBelow, tab}
+use Rattle.laws.proofs.Tables.{getD-tab, tab-same, sum-same}
 use Rattle.rules.specs.declared.Guest.{Guest}
 use Rattle.rules.specs.declared.Settings.{Settings}
 use Rattle.rules.specs.Sizes.{maxGuests}
-use Rattle.rules.specs.Configuration.{Config, share, windowFirst, windowLast, shareAddress, settingsTests, goodSettings, goodLists, good}
+use Rattle.rules.specs.Configuration.{Config, share, windowFirst, windowLast, good}
 use Rattle.rules.specs.State.{World, trimmed, stateOf, write, start}
 use Rattle.rules.specs.Guests.{own}
 use Rattle.rules.specs.Sound.{guest}
-use Rattle.rules.proofs.Worlds.{good-facts}
+use Rattle.rules.proofs.Groups.{good-facts, good-tests}
 use Rattle.rules.proofs.Writing.{kept}
 
 module _ (s : Settings) (few : s .guests ≤ maxGuests) where
@@ -36,35 +35,6 @@ module _ (s : Settings) (few : s .guests ≤ maxGuests) where
   unfolding trimmed
   kept-last g l = in-use (windowLast s) g l
 
-  pub good-trimmed : goodSettings s ≡ true → goodSettings (trimmed s) ≡ true
-  unfolding goodSettings
-  good-trimmed h =
-      let t = opened (settingsTests s) h in
-      closed (settingsTests (trimmed s)) (
-        unfold trimmed in t .0,
-        (
-          unfold trimmed in t .1 .0,
-          (
-            below-all (trimmed s .guests) _ (λ g l. rw (kept-first g (unfold trimmed in l), kept-last g (unfold trimmed in l)) (below-at (s .guests) (λ k. leb (windowFirst s k) (windowLast s k)) g (t .1 .1 .0) (unfold trimmed in l))),
-            (
-              below-all (trimmed s .guests) _ (λ g l. below-all g _ (λ k m. windows g k (unfold trimmed in l) m (t .1 .1 .1 .0))),
-              (
-                rw (sums) (t .1 .1 .1 .1 .0),
-                (unfold trimmed in t .1 .1 .1 .1 .1 .0, (unfold trimmed in t .1 .1 .1 .1 .1 .1 .0, (unfold trimmed in t .1 .1 .1 .1 .1 .1 .1 .0, (unfold trimmed in t .1 .1 .1 .1 .1 .1 .1 .1 .0, (unfold trimmed in t .1 .1 .1 .1 .1 .1 .1 .1 .1 .0, tt))))),
-              ),
-            ),
-          ),
-        ),
-      )
-    where
-      windows : (g k : ℕ) → g < s .guests → k < g → below (s .guests) (λ g. below g (λ h. not (shareAddress s g h))) ≡ true → not (shareAddress (trimmed s) g k) ≡ true
-      windows g k l m a =
-          rw (kept-first g l, kept-last g l, kept-first k (omega arith), kept-last k (omega arith))
-          (below-at g (λ h. not (shareAddress s g h)) k (below-at (s .guests) (λ g. below g (λ h. not (shareAddress s g h))) g a l) m)
-
-      sums : sumBelow (trimmed s .guests) (share (trimmed s)) ≡ sumBelow (s .guests) (share s)
-      sums = unfold trimmed in sum-same (s .guests) (share (trimmed s)) (share s) kept-share
-
   pub trimmed-twice : trimmed (trimmed s) ≡ trimmed s
   trimmed-twice = unfold trimmed in rw (again (share s), again (windowFirst s), again (windowLast s))
     where
@@ -80,11 +50,30 @@ module _ (c : Config) (h : good c ≡ true) where
   few-guests = good-facts c h .guests .1
 
   pub good-kept : good (kept c) ≡ true
-  unfolding good kept
   good-kept =
-      both (goodSettings (trimmed (c .settings))) _
-      (good-trimmed (c .settings) few-guests (both-left (goodSettings (c .settings)) (goodLists (c .settings) (c .endpoints) (c .owners)) h))
-      (unfold trimmed goodLists in both-right (goodSettings (c .settings)) (goodLists (c .settings) (c .endpoints) (c .owners)) h)
+      let i = good-facts c h in
+      let s = c .settings in
+      unfold kept in
+      good-tests (record { settings = trimmed s; endpoints = c .endpoints; owners = c .owners })
+      (record {
+        guests = unfold trimmed in i .guests;
+        windows = λ g l. let m : g < s .guests = (unfold trimmed in l) in rw (kept-first s few-guests g m, kept-last s few-guests g m) (i .windows g m);
+        windows-apart = λ g k l n. let m : g < s .guests = (unfold trimmed in l) in
+            rw (kept-first s few-guests g m, kept-last s few-guests g m, kept-first s few-guests k (omega arith), kept-last s few-guests k (omega arith)) (i .windows-apart g k m n);
+        shares = rw sums (i .shares);
+        mask = unfold trimmed in i .mask;
+        input = unfold trimmed in i .input;
+        domains = unfold trimmed in i .domains;
+        top = unfold trimmed in i .top;
+        narrow = unfold trimmed in i .narrow;
+        sizes = i .sizes;
+        few = i .few;
+        owners = unfold trimmed in i .owners;
+        distinct = i .distinct;
+      })
+    where
+      sums : sumBelow (trimmed (c .settings) .guests) (share (trimmed (c .settings))) ≡ sumBelow (c .settings .guests) (share (c .settings))
+      sums = unfold trimmed in sum-same (c .settings .guests) (share (trimmed (c .settings))) (share (c .settings)) (kept-share (c .settings) few-guests)
 
   pub own-kept : (g : Guest) → g .0 < c .settings .guests → own (kept c) g ≡ own c g
   own-kept g l =

@@ -1,5 +1,6 @@
 pub mod Records
 pub mod Attachments
+pub mod Groups
 pub mod Parts
 pub mod Worlds
 pub mod Words
@@ -7,8 +8,9 @@ pub mod Zeros
 pub mod Shares
 pub mod Writing
 pub mod Kept
-pub mod Soundness
 pub mod Reading
+pub mod Divided
+pub mod Soundness
 pub mod Steps
 pub mod History
 pub mod Accesses

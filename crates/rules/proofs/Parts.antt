@@ -1,16 +1,16 @@
--- What soundness asks of one guest's part, and that the guest's rules keep it.
-use Prim.Native.Nat.{ℕ, suc, _+_, _-_, _/_, _≤_, _<_}
+-- What soundness asks of one guest's part, the guest's rules keep.
+use Prim.Native.Nat.{ℕ, _+_, _-_, _/_, _≤_, _<_}
 use mathlib.Core.Path.{_≡_, refl, sym, ap, _∙_}
 use mathlib.Core.Bool.{Bool, true, false, cond, not, _&&_, _||_}
-use mathlib.Core.List.{List, [], _∷_, _++_}
+use mathlib.Core.List.{List, [], _∷_}
 use mathlib.Core.Option.{Option, some, none}
 use native.Mathlib.Nat.{le-trans}
 use native.Mathlib.Omega.{arith}
-use lib.Dec.{leb, ltb, eqb}
-use lib.ListN.{length, drop, replicate, length-append, length-drop, length-replicate}
-use borrow.Author.Tests.{ltb-true, ltb-false, leb-true, leb-false, eqb-true, eq-eqb, lt-ltb, le-leb, not-true, not-false}
-use Rattle.laws.specs.Lists.{all?, any?, keep, every?, pairwise, firstFailing}
-use Rattle.laws.proofs.Tests.{either-way, both, both-left, both-right, true-false, nor, opened, closed, Clear, cleared, passed, clear-left, clear-right}
+use lib.Dec.{ltb, eqb}
+use lib.ListN.{length, replicate, length-append, length-drop, length-replicate}
+use borrow.Author.Tests.{ltb-true, ltb-false, leb-false, eqb-true, eq-eqb, lt-ltb, not-true, not-false}
+use Rattle.laws.specs.Lists.{all?, any?, keep, firstFailing}
+use Rattle.laws.proofs.Tests.{either-way, both, both-left, both-right, true-false, nor, Clear, cleared, passed, clear-left, clear-right}
 use Rattle.laws.proofs.Filters.{all-imp, all-append, all-drop, all-keep, none-passes, length-keep, pairwise-keep}
 use Rattle.rules.specs.declared.Endpoint.{Endpoint}
 use Rattle.rules.specs.declared.Domain.{Domain}
@@ -21,62 +21,32 @@ use Rattle.rules.specs.declared.Refusal.{Refusal}
 use Rattle.rules.specs.declared.Cause.{Cause}
 use Rattle.rules.specs.declared.Cause.the-variants.{Unattached, Unmapped}
 use Rattle.rules.specs.Sizes.{domainSpan, maxFaults, maxLost}
-use Rattle.rules.specs.Table.{keyOf, guestOf, domainOf, before, overlap, insertMapping}
+use Rattle.rules.specs.Table.{keyOf, guestOf, domainOf, before, overlap, apart, insertMapping}
 use Rattle.rules.specs.State.{Attachment, Log}
 use Rattle.rules.specs.Guests.{Own, Part, withRecords, withLog}
 use Rattle.rules.specs.Requests.{requestRefusals, typeOf, ATTACH, DETACH, MAP, domainField, endpointField, attachReserved, virtStart, virtEnd, unmapReserved}
 use Rattle.rules.specs.Handlers.{Steps, settle, outside, isIn, exists, listed, attachmentOf, attachedAs, ofKey, without, leave, enter, moveFrom, attached, attachSteps, handleAttach, detachSteps, handleDetach, formSteps, recordSteps, mapSteps, handleMap, unmapSteps, handleUnmap, askedFor, handle}
 use Rattle.rules.specs.Access.{logged, reasonOf, faultOf, blocked, translated, findMapping, decided, access, afterReset, fetchable, fetchedFrom}
-use Rattle.rules.specs.Sound.{passes, faultGood}
+use Rattle.rules.specs.Sound.{passes, faultGood, recordGood, inRange}
 use Rattle.rules.specs.Device.{Job, request, reset, fetch, Call, of-guest, access-by, requested, jobRule, rule}
-use Rattle.rules.proofs.Records.{key-guest, key-domain, key-back, wide, apart, mine, all-insert, length-insert, insert-ordered, insert-apart}
+use Rattle.rules.proofs.Records.{key-guest, key-domain, key-back, wide, mine, all-insert, length-insert, insert-ordered, insert-apart}
+use Rattle.rules.proofs.Groups.{LogFacts, Facts}
 use Rattle.rules.proofs.Attachments.{length-attachedAs, all-attachedAs, exists-attachedAs, detached, in-one, all-none}
-
--- an attached endpoint's domain lies in the domain range
-unfoldable pub inRange : Own → Attachment → Bool
-inRange o none = true
-inRange o (some d) = not (outside (o .domains .start) (o .domains .end) (d .0))
-
--- the record passes steps 1 to 6 of MAP
-unfoldable pub recordOk : Own → List Attachment → Mapping → Bool
-recordOk o l r = passes (firstFailing (recordSteps o l (domainOf r) r))
-
-abbrev pub logTests : Own → Log → List Bool
-logTests o l = leb (length (l .faults)) maxFaults ∷ leb (l .lost) maxLost ∷ all? (faultGood o) (l .faults) ∷ []
-
-unfoldable pub logOk : Own → Log → Bool
-logOk o l = every? (logTests o l)
-
-pub record Facts (o : Own) (p : Part) : Type 0 where
-  pub narrow : o .domains .end < domainSpan
-  pub size : length (p .attachments) ≡ length (o .endpoints)
-  pub attachments : all? (inRange o) (p .attachments) ≡ true
-  pub own : all? (mine (o .guest)) (p .records) ≡ true
-  pub records : all? (recordOk o (p .attachments)) (p .records) ≡ true
-  pub order : pairwise before (p .records) ≡ true
-  pub disjoint : pairwise apart (p .records) ≡ true
-  pub share : length (p .records) ≤ o .share
-  pub log : logOk o (p .log) ≡ true
 
 -- LOGS
 
-pub log-logged : (o : Own) (f : Fault) (l : Log) → faultGood o f ≡ true → logOk o l ≡ true → logOk o (logged f l) ≡ true
-unfolding logOk logged
+pub log-logged : (o : Own) (f : Fault) (l : Log) → faultGood o f ≡ true → LogFacts o l → LogFacts o (logged f l)
+unfolding logged
 log-logged o f l hf h =
-    let e = opened (logTests o l) h in
-    let lost = leb-true (l .lost) maxLost (e .1 .0) in
-    either-way (λ (x : Log). logOk o x ≡ true) (ltb (length (l .faults)) maxFaults)
-    (λ r. closed (logTests o (record { faults = l .faults ++ (f ∷ []); lost = l .lost })) (le-leb (length (l .faults ++ (f ∷ []))) maxFaults (simp length-append (omega (arith, ltb-true))), (le-leb (l .lost) maxLost lost, (all-append (faultGood o) (l .faults) (f ∷ []) (e .1 .1 .0) (rw hf), tt))))
-    (λ r. either-way (λ (n : ℕ). logOk o (record { faults = l .faults; lost = n }) ≡ true) (ltb (l .lost) maxLost)
-    (λ s. closed (logTests o (record { faults = l .faults; lost = suc (l .lost) })) (e .0, (le-leb (suc (l .lost)) maxLost (omega (arith, lost, ltb-true)), (e .1 .1 .0, tt))))
+    either-way (LogFacts o) (ltb (length (l .faults)) maxFaults)
+    (λ r. record { count = simp length-append (omega (arith, ltb-true)); lost = h .lost; faults = all-append (faultGood o) (l .faults) (f ∷ []) (h .faults) (rw hf) })
+    (λ r. either-way (λ (n : ℕ). LogFacts o (record { faults = l .faults; lost = n })) (ltb (l .lost) maxLost)
+    (λ s. record { count = h .count; lost = omega (arith, ltb-true); faults = h .faults })
     (λ s. h))
 
-pub log-fetched : (o : Own) (n : ℕ) (l : Log) → logOk o l ≡ true → logOk o (fetchedFrom n l) ≡ true
-unfolding logOk fetchedFrom
-log-fetched o n l h =
-    let e = opened (logTests o l) h in
-    closed (logTests o (record { faults = drop n (l .faults); lost = l .lost }))
-    (le-leb (length (drop n (l .faults))) maxFaults (simp length-drop (omega (arith, leb-true))), (e .1 .0, (all-drop (faultGood o) n (l .faults) (e .1 .1 .0), tt)))
+pub log-fetched : (o : Own) (n : ℕ) (l : Log) → LogFacts o l → LogFacts o (fetchedFrom n l)
+unfolding fetchedFrom
+log-fetched o n l h = record { count = simp length-drop (omega (arith, h .count)); lost = h .lost; faults = all-drop (faultGood o) n (l .faults) (h .faults) }
 
 -- STEPS
 
@@ -95,23 +65,23 @@ settle-keeps P l p q hp hq = go (firstFailing l) refl
 
 -- RECORDS
 
-pub record-exists : (o : Own) (l : List Attachment) (r : Mapping) → recordOk o l r ≡ true → exists (domainOf r) l ≡ true
-unfolding recordOk
+pub record-exists : (o : Own) (l : List Attachment) (r : Mapping) → recordGood o l r ≡ true → exists (domainOf r) l ≡ true
+unfolding recordGood
 record-exists o l r h = not-false _ (cleared (recordSteps o l (domainOf r) r) (passes-none _ h) .0)
 
-pub record-form : (o : Own) (l : List Attachment) (r : Mapping) → recordOk o l r ≡ true → Clear (formSteps o r)
-unfolding recordOk
+pub record-form : (o : Own) (l : List Attachment) (r : Mapping) → recordGood o l r ≡ true → Clear (formSteps o r)
+unfolding recordGood
 record-form o l r h = cleared (recordSteps o l (domainOf r) r) (passes-none _ h) .1
 
-pub record-ok : (o : Own) (l : List Attachment) (r : Mapping) → exists (domainOf r) l ≡ true → Clear (formSteps o r) → recordOk o l r ≡ true
-unfolding recordOk
+pub record-ok : (o : Own) (l : List Attachment) (r : Mapping) → exists (domainOf r) l ≡ true → Clear (formSteps o r) → recordGood o l r ≡ true
+unfolding recordGood
 record-ok o l r h f = rw (passed (recordSteps o l (domainOf r) r) (rw h, f))
 
 pub form-wide : (o : Own) (r : Mapping) → Clear (formSteps o r) → wide r ≡ true
 unfolding formSteps wide
 form-wide o r c = let e = c .1 .0 in lt-ltb (r .start) (r .end) (omega (arith, leb-false))
 
-pub record-wide : (o : Own) (l : List Attachment) (r : Mapping) → recordOk o l r ≡ true → wide r ≡ true
+pub record-wide : (o : Own) (l : List Attachment) (r : Mapping) → recordGood o l r ≡ true → wide r ≡ true
 record-wide o l r g = form-wide o r (record-form o l r g)
 
 -- DOMAINS
@@ -154,7 +124,7 @@ without-keeps o p q f =
       size = f .size;
       attachments = f .attachments;
       own = all-keep (mine (o .guest)) (λ r. not (q r)) (mine (o .guest)) (p .records) (λ x e g. g) (f .own);
-      records = all-keep (recordOk o (p .attachments)) (λ r. not (q r)) (recordOk o (p .attachments)) (p .records) (λ x e g. g) (f .records);
+      records = all-keep (recordGood o (p .attachments)) (λ r. not (q r)) (recordGood o (p .attachments)) (p .records) (λ x e g. g) (f .records);
       order = pairwise-keep before (λ r. not (q r)) (p .records) (f .order);
       disjoint = pairwise-keep apart (λ r. not (q r)) (p .records) (f .disjoint);
       share = le-trans (length-keep (λ r. not (q r)) (p .records)) (f .share);
@@ -162,7 +132,7 @@ without-keeps o p q f =
     }
 
 -- other attachments under which every record is still ok
-reattached : (o : Own) (p : Part) (l : List Attachment) → length l ≡ length (p .attachments) → all? (inRange o) l ≡ true → all? (recordOk o l) (p .records) ≡ true → Facts o p
+reattached : (o : Own) (p : Part) (l : List Attachment) → length l ≡ length (p .attachments) → all? (inRange o) l ≡ true → all? (recordGood o l) (p .records) ≡ true → Facts o p
     → Facts o (record { attachments = l; records = p .records; log = p .log })
 reattached o p l n a h f =
     record { narrow = f .narrow; size = n ∙ f .size; attachments = a; own = f .own; records = h; order = f .order; disjoint = f .disjoint; share = f .share; log = f .log }
@@ -172,7 +142,7 @@ unfolding leave
 leave-facts o p e d h f =
     reattached o (withRecords (without gone (p .records)) p) new (length-attachedAs e none (o .endpoints) (p .attachments))
     (all-attachedAs (inRange o) e none (o .endpoints) (p .attachments) (unfold inRange in refl) (f .attachments))
-    (unfold without in all-keep both-ok (λ r. not (gone r)) (recordOk o new) (p .records) (λ r k g. still r k (both-left (mine (o .guest) r) _ g) (both-right (mine (o .guest) r) _ g)) (all-both (p .records) (f .own) (f .records)))
+    (unfold without in all-keep both-ok (λ r. not (gone r)) (recordGood o new) (p .records) (λ r k g. still r k (both-left (mine (o .guest) r) _ g) (both-right (mine (o .guest) r) _ g)) (all-both (p .records) (f .own) (f .records)))
     (without-keeps o p gone f)
   where
     new : List Attachment
@@ -182,16 +152,16 @@ leave-facts o p e d h f =
     gone r = not (exists d new) && ofKey (keyOf (o .guest) d) r
 
     both-ok : Mapping → Bool
-    both-ok r = mine (o .guest) r && recordOk o (p .attachments) r
+    both-ok r = mine (o .guest) r && recordGood o (p .attachments) r
 
-    all-both : (l : List Mapping) → all? (mine (o .guest)) l ≡ true → all? (recordOk o (p .attachments)) l ≡ true → all? both-ok l ≡ true
+    all-both : (l : List Mapping) → all? (mine (o .guest)) l ≡ true → all? (recordGood o (p .attachments)) l ≡ true → all? both-ok l ≡ true
     all-both [] a b = refl
     all-both (r ∷ l) a b =
         both (both-ok r) (all? both-ok l)
-        (both (mine (o .guest) r) _ (both-left (mine (o .guest) r) _ a) (both-left (recordOk o (p .attachments) r) _ b))
-        (all-both l (both-right (mine (o .guest) r) _ a) (both-right (recordOk o (p .attachments) r) _ b))
+        (both (mine (o .guest) r) _ (both-left (mine (o .guest) r) _ a) (both-left (recordGood o (p .attachments) r) _ b))
+        (all-both l (both-right (mine (o .guest) r) _ a) (both-right (recordGood o (p .attachments) r) _ b))
 
-    still : (r : Mapping) → not (gone r) ≡ true → mine (o .guest) r ≡ true → recordOk o (p .attachments) r ≡ true → recordOk o new r ≡ true
+    still : (r : Mapping) → not (gone r) ≡ true → mine (o .guest) r ≡ true → recordGood o (p .attachments) r ≡ true → recordGood o new r ≡ true
     still r k m g = record-ok o new r (go (eqb (domainOf r .0) (d .0)) refl) (record-form o (p .attachments) r g)
       where
         here : (b : Bool) → exists d new ≡ b → not (not b && ofKey (keyOf (o .guest) d) r) ≡ true → ofKey (keyOf (o .guest) d) r ≡ true → exists d new ≡ true
@@ -210,7 +180,7 @@ unfolding enter
 enter-facts o p e d h r f =
     reattached o p (attachedAs e (some d) (o .endpoints) (p .attachments)) (length-attachedAs e (some d) (o .endpoints) (p .attachments))
     (all-attachedAs (inRange o) e (some d) (o .endpoints) (p .attachments) (unfold inRange in rw r) (f .attachments))
-    (all-imp (recordOk o (p .attachments)) (recordOk o (attachedAs e (some d) (o .endpoints) (p .attachments))) (p .records)
+    (all-imp (recordGood o (p .attachments)) (recordGood o (attachedAs e (some d) (o .endpoints) (p .attachments))) (p .records)
     (λ x g. record-ok o _ x (exists-attachedAs (domainOf x) e (some d) (o .endpoints) (p .attachments) (h (domainOf x)) (record-exists o (p .attachments) x g)) (record-form o (p .attachments) x g))
     (f .records))
     f
@@ -248,8 +218,8 @@ map-facts o p d r k f = settle-keeps (Facts o) (mapSteps o p d r) p (withRecords
           size = f .size;
           attachments = f .attachments;
           own = all-insert (mine (o .guest)) r (p .records) (key-mine o d r small k) (f .own);
-          records = all-insert (recordOk o (p .attachments)) r (p .records) (record-ok o (p .attachments) r (rw dom ex) (lo .1)) (f .records);
-          order = insert-ordered r (p .records) (form-wide o r (lo .1)) (all-imp (recordOk o (p .attachments)) wide (p .records) (λ x g. record-wide o (p .attachments) x g) (f .records)) free (f .order);
+          records = all-insert (recordGood o (p .attachments)) r (p .records) (record-ok o (p .attachments) r (rw dom ex) (lo .1)) (f .records);
+          order = insert-ordered r (p .records) (form-wide o r (lo .1)) (all-imp (recordGood o (p .attachments)) wide (p .records) (λ x g. record-wide o (p .attachments) x g) (f .records)) free (f .order);
           disjoint = insert-apart r (p .records) free (f .disjoint);
           share = rw (length-insert r (p .records)) (let full = hi .1 .0 in omega (arith, leb-false));
           log = f .log;
@@ -274,7 +244,7 @@ handle-facts o p r f =
 
 -- ACCESSES, RESET AND FETCH
 
-with-log : (o : Own) (p : Part) (l : Log) → logOk o l ≡ true → Facts o p → Facts o (withLog l p)
+with-log : (o : Own) (p : Part) (l : Log) → LogFacts o l → Facts o p → Facts o (withLog l p)
 with-log o p l h f =
     record { narrow = f .narrow; size = f .size; attachments = f .attachments; own = f .own; records = f .records; order = f .order; disjoint = f .disjoint; share = f .share; log = h }
 
@@ -314,7 +284,7 @@ reset-facts o p f =
       order = refl;
       disjoint = refl;
       share = omega arith;
-      log = unfold logOk in refl;
+      log = record { count = omega arith; lost = omega arith; faults = refl };
     }
 
 -- the endpoint of an access is the guest's

@@ -1,5 +1,5 @@
 -- The order of records, a record put in, and one guest's records taken out and put back.
-use Prim.Native.Nat.{ℕ, suc, _+_, _-_, _*_, _/_, _%_, _<_}
+use Prim.Native.Nat.{ℕ, suc, _+_, _-_, _*_, _/_, _%_, _≤_, _<_}
 use mathlib.Core.Path.{_≡_, refl, sym, ap, _∙_}
 use mathlib.Core.Bool.{Bool, true, false, cond, not, _&&_}
 use mathlib.Core.List.{List, [], _∷_, _++_, append-nil}
@@ -7,15 +7,16 @@ use mathlib.Core.Logic.{_⊎_, inl, inr}
 use native.Mathlib.Omega.{arith}
 use lib.Dec.{leb, ltb, eqb}
 use lib.ListN.{length}
-use borrow.Author.Tests.{ltb-true, ltb-false, eqb-true, eqb-false, eq-eqb, ne-eqb, lt-ltb, le-leb}
+use borrow.Author.Tests.{ltb-true, ltb-false, eqb-true, eqb-false, eq-eqb, ne-eqb, lt-ltb, leb-true, le-leb}
 use Rattle.laws.specs.Lists.{all?, keep, pairwise}
 use Rattle.laws.proofs.Tests.{both, both-left, both-right, true-false, or-cases, or-right, same-test}
 use Rattle.laws.proofs.Filters.{all-imp, all-append, all-keep, all-kept, keep-all, keep-none, keep-append, keep-keep, pairwise-keep, pairwise-append}
 use Rattle.rules.specs.declared.Guest.{Guest}
 use Rattle.rules.specs.declared.Mapping.{Mapping}
 use Rattle.rules.specs.Sizes.{domainSpan}
-use Rattle.rules.specs.Table.{guestOf, before, overlap, insertMapping}
+use Rattle.rules.specs.Table.{guestOf, before, overlap, apart, insertMapping}
 use Rattle.rules.specs.Guests.{recordsOf, withRecordsOf}
+use Rattle.rules.specs.Sound.{guest}
 
 -- the key names its guest and its domain
 pub key-guest : (g d : ℕ) → d < domainSpan → (g * domainSpan + d) / domainSpan ≡ g
@@ -102,9 +103,6 @@ length-insert r (s ∷ l) = go (before r s) (length-insert r l)
     go : (b : Bool) → length (insertMapping r l) ≡ suc (length l) → length (cond b (r ∷ s ∷ l) (s ∷ insertMapping r l)) ≡ suc (suc (length l))
     go true ih = refl
     go false ih = ap suc ih
-
-abbrev pub apart : Mapping → Mapping → Bool
-apart r s = not (overlap r s)
 
 pub insert-ordered : (r : Mapping) (l : List Mapping) → wide r ≡ true → all? wide l ≡ true → all? (apart r) l ≡ true → pairwise before l ≡ true → pairwise before (insertMapping r l) ≡ true
 insert-ordered r [] wr wl m h = refl
@@ -212,3 +210,56 @@ pairwise-with q f g p l m hp h =
 pub apart-guests : (r s : Mapping) → guestOf r < guestOf s → apart r s ≡ true
 unfolding overlap
 apart-guests r s h = rw (ne-eqb (r .key) (s .key) (λ e. omega arith))
+
+-- RECORDS GUEST BY GUEST
+
+module _ (n : ℕ) where
+  -- what each guest's records pass, all records pass
+  pub all-guests : (q : ℕ → Mapping → Bool) (l : List Mapping) → all? (λ r. ltb (guestOf r) n) l ≡ true → ((g : ℕ) → g < n → all? (q g) (recordsOf (guest g) l) ≡ true) → all? (λ r. q (guestOf r) r) l ≡ true
+  all-guests q [] h f = refl
+  all-guests q (r ∷ l) h f =
+      both (q (guestOf r) r) (all? (λ s. q (guestOf s) s) l)
+      (both-left (q (guestOf r) r) (all? (q (guestOf r)) (recordsOf (guest (guestOf r)) l)) (rw (eq-eqb (guestOf r) (guestOf r) refl) at (f (guestOf r) (ltb-true (guestOf r) n (both-left (ltb (guestOf r) n) _ h)))))
+      (all-guests q l (both-right (ltb (guestOf r) n) _ h) (λ g m. go g (eqb (guestOf r) g) (f g m)))
+    where
+      go : (g : ℕ) (b : Bool) → all? (q g) (cond b (r ∷ recordsOf (guest g) l) (recordsOf (guest g) l)) ≡ true → all? (q g) (recordsOf (guest g) l) ≡ true
+      go g true k = both-right (q g r) _ k
+      go g false k = k
+
+  -- and a test of pairs that any two records of two guests, in the guests' order, pass
+  module _ (q : Mapping → Mapping → Bool) (across : (r s : Mapping) → guestOf r < guestOf s → q r s ≡ true) where
+    own-first : (r : Mapping) (l : List Mapping) → all? (λ s. leb (guestOf r) (guestOf s)) l ≡ true → all? (q r) (recordsOf (guest (guestOf r)) l) ≡ true → all? (q r) l ≡ true
+    own-first r [] u h = refl
+    own-first r (s ∷ l) u h = go (eqb (guestOf s) (guestOf r)) refl h (λ k. own-first r l (both-right (leb (guestOf r) (guestOf s)) _ u) k)
+      where
+        go : (b : Bool) → eqb (guestOf s) (guestOf r) ≡ b → all? (q r) (cond b (s ∷ recordsOf (guest (guestOf r)) l) (recordsOf (guest (guestOf r)) l)) ≡ true
+            → (all? (q r) (recordsOf (guest (guestOf r)) l) ≡ true → all? (q r) l ≡ true) → (q r s && all? (q r) l) ≡ true
+        go true e k i = both (q r s) (all? (q r) l) (both-left (q r s) _ k) (i (both-right (q r s) _ k))
+        go false e k i =
+            let other : guestOf s ≡ guestOf r → ⊥ = eqb-false (guestOf s) (guestOf r) e in
+            let up = leb-true (guestOf r) (guestOf s) (both-left (leb (guestOf r) (guestOf s)) _ u) in
+            both (q r s) (all? (q r) l) (across r s (omega arith)) (i k)
+
+    pub pairwise-guests : (l : List Mapping) → all? (λ r. ltb (guestOf r) n) l ≡ true → pairwise (λ r s. leb (guestOf r) (guestOf s)) l ≡ true
+        → ((g : ℕ) → g < n → pairwise q (recordsOf (guest g) l) ≡ true) → pairwise q l ≡ true
+    pairwise-guests [] h u f = refl
+    pairwise-guests (r ∷ l) h u f =
+        both (all? (q r) l) (pairwise q l)
+        (own-first r l (both-left (all? (λ s. leb (guestOf r) (guestOf s)) l) _ u) (both-left (all? (q r) (recordsOf (guest (guestOf r)) l)) _ (rw (eq-eqb (guestOf r) (guestOf r) refl) at (f (guestOf r) (ltb-true (guestOf r) n (both-left (ltb (guestOf r) n) _ h))))))
+        (pairwise-guests l (both-right (ltb (guestOf r) n) _ h) (both-right (all? (λ s. leb (guestOf r) (guestOf s)) l) _ u) (λ g m. go g (eqb (guestOf r) g) (f g m)))
+      where
+        go : (g : ℕ) (b : Bool) → pairwise q (cond b (r ∷ recordsOf (guest g) l) (recordsOf (guest g) l)) ≡ true → pairwise q (recordsOf (guest g) l) ≡ true
+        go g true k = both-right (all? (q r) (recordsOf (guest g) l)) _ k
+        go g false k = k
+
+-- records in order stand in the guests' order
+pub before-upward : (l : List Mapping) → pairwise before l ≡ true → pairwise (λ r s. leb (guestOf r) (guestOf s)) l ≡ true
+before-upward [] h = refl
+before-upward (r ∷ l) h =
+    both (all? (λ s. leb (guestOf r) (guestOf s)) l) _
+    (all-imp (before r) (λ s. leb (guestOf r) (guestOf s)) l (λ s b. le-leb (guestOf r) (guestOf s) (go s (before-cases r s b))) (both-left (all? (before r) l) (pairwise before l) h))
+    (before-upward l (both-right (all? (before r) l) (pairwise before l) h))
+  where
+    go : (s : Mapping) → (r .key < s .key) ⊎ ((r .key ≡ s .key) × (r .start < s .start)) → guestOf r ≤ guestOf s
+    go s (inl a) = omega arith
+    go s (inr a) = omega (arith, a .0)

@@ -4,19 +4,20 @@ use mathlib.Core.Path.{_≡_, refl, sym, ap, _∙_}
 use mathlib.Core.Bool.{Bool, true, false, cond}
 use mathlib.Core.List.{List, [], _∷_}
 use native.Mathlib.Nat.{le-trans}
-use lib.Dec.{leb, ltb, eqb}
+use lib.Dec.{ltb, eqb}
 use lib.ListN.{length}
-use borrow.Author.Tests.{ltb-true, leb-true}
+use borrow.Author.Tests.{ltb-true}
 use Rattle.laws.specs.Lists.{all?, sumBelow}
-use Rattle.laws.proofs.Tests.{both, both-left, both-right, opened}
+use Rattle.laws.proofs.Tests.{both-left, both-right}
 use Rattle.laws.proofs.Tables.{sum-same, sum-le, sum-zero, sum-bump}
 use Rattle.rules.specs.declared.Mapping.{Mapping}
 use Rattle.rules.specs.Sizes.{maxRecords}
-use Rattle.rules.specs.Configuration.{Config, share, settingsTests, goodSettings, goodLists, good}
+use Rattle.rules.specs.Configuration.{Config, share, good}
 use Rattle.rules.specs.Table.{guestOf}
 use Rattle.rules.specs.State.{World}
 use Rattle.rules.specs.Guests.{own, part, recordsOf}
 use Rattle.rules.specs.Sound.{guest}
+use Rattle.rules.proofs.Groups.{good-facts}
 use Rattle.rules.proofs.Worlds.{Whole}
 
 length-cond : {A : Type 0} (b : Bool) (x : A) (l : List A) → length (cond b (x ∷ l) l) ≡ cond b (suc (length l)) (length l)
@@ -32,8 +33,7 @@ records-sum n (r ∷ l) h =
     ∙ sum-same n (λ g. cond (eqb (guestOf r) g) (suc (length (recordsOf (guest g) l))) (length (recordsOf (guest g) l))) (λ g. length (recordsOf (guest g) (r ∷ l))) (λ k m. sym (length-cond (eqb (guestOf r) k) r (recordsOf (guest k) l)))
 
 pub shares-sum : (c : Config) → good c ≡ true → sumBelow (c .settings .guests) (share (c .settings)) ≤ maxRecords
-unfolding good goodSettings
-shares-sum c h = leb-true _ _ (opened (settingsTests (c .settings)) (both-left (goodSettings (c .settings)) (goodLists (c .settings) (c .endpoints) (c .owners)) h) .1 .1 .1 .1 .0)
+shares-sum c h = good-facts c h .shares
 
 held-le : (c : Config) (w : World) → Whole c w → (k : ℕ) → k < c .settings .guests → length (recordsOf (guest k) (w .records)) ≤ share (c .settings) k
 held-le c w h k l = unfold own part in h .parts (guest k) l .share

@@ -22,7 +22,8 @@ use Rattle.rules.specs.State.{World, Device, configOf, read, write, stat
 use Rattle.rules.specs.Guests.{own, part, replace}
 use Rattle.rules.specs.Sound.{sound}
 use Rattle.rules.specs.Device.{Call, of-guest, access-by, Reply, refusedWith, rule, caller, numbered, work, performed, step, SetUp, setUp}
-use Rattle.rules.proofs.Worlds.{Good, good-facts, Whole, caller-below, performedWorld, stepWorld, step-keeps, start-whole}
+use Rattle.rules.proofs.Worlds.{Whole, caller-below, performedWorld, stepWorld, step-keeps, start-whole}
+use Rattle.rules.proofs.Groups.{Good, good-facts}
 use Rattle.rules.proofs.Writing.{kept, config-back, read-write}
 use Rattle.rules.proofs.Kept.{own-kept, write-kept}
 use Rattle.rules.proofs.Soundness.{write-sound}

@@ -1,5 +1,5 @@
 -- What soundness asks of the whole device, that every call keeps it, and that a call touches only its caller's part.
-use Prim.Native.Nat.{ℕ, zero, suc, _-_, _≤_, _<_}
+use Prim.Native.Nat.{ℕ, zero, suc, _-_, _<_}
 use mathlib.Core.Path.{_≡_, refl, sym, ap, _∙_}
 use mathlib.Core.Bool.{Bool, true, false, cond, not}
 use mathlib.Core.List.{List, [], _∷_}
@@ -8,46 +8,24 @@ use native.Mathlib.Omega.{arith}
 use lib.Dec.{leb, ltb, eqb}
 use lib.ListN.{length, getD, set, replicate, length-set, length-replicate, getD-replicate}
 use lib.Seq.{getD-set-same, getD-set-other}
-use borrow.Author.Tests.{ltb-true, leb-true, eqb-true, eqb-false, eq-eqb, lt-ltb, not-false}
+use borrow.Author.Tests.{ltb-true, eqb-true, eqb-false, eq-eqb, lt-ltb, not-false}
 use Rattle.laws.specs.Lists.{all?, any?, keep, pickBy, pairwise}
-use Rattle.laws.proofs.Tests.{either-way, both, both-left, both-right, true-false, or-left, or-right, opened}
+use Rattle.laws.proofs.Tests.{either-way, both, both-left, both-right, true-false, or-left, or-right}
 use Rattle.laws.proofs.Filters.{all-imp}
 use Rattle.laws.proofs.Owners.{pick-weave, pick-weave-other, length-weave, length-pickBy}
 use Rattle.rules.specs.declared.Guest.{Guest}
 use Rattle.rules.specs.declared.Endpoint.{Endpoint}
 use Rattle.rules.specs.declared.Refusal.the-variants.{NoSuchGuest, UnknownEndpoint}
-use Rattle.rules.specs.Sizes.{maxGuests, maxEndpoints, domainSpan}
-use Rattle.rules.specs.Configuration.{Config, settingsTests, listTests, goodSettings, goodLists, good}
-use Rattle.rules.specs.Table.{guestOf, before}
+use Rattle.rules.specs.Configuration.{Config, good}
+use Rattle.rules.specs.Table.{guestOf, before, apart}
 use Rattle.rules.specs.State.{Attachment, World, noLog, start}
 use Rattle.rules.specs.Guests.{Own, Part, own, part, replace}
 use Rattle.rules.specs.Handlers.{listed}
-use Rattle.rules.specs.Sound.{guest}
+use Rattle.rules.specs.Sound.{guest, inRange}
 use Rattle.rules.specs.Device.{Call, of-guest, access-by, Reply, refusedWith, rule, ownerOf, caller, is, owns, numbered, work}
-use Rattle.rules.proofs.Records.{apart, mine, before-guest, apart-guests, records-back, records-other, all-with, pairwise-with}
-use Rattle.rules.proofs.Parts.{Facts, Named, rule-facts, inRange, logOk}
-
--- THE CONFIGURATION'S FACTS
-
-pub record Good (c : Config) : Type 0 where
-  pub guests : (1 ≤ c .settings .guests) × (c .settings .guests ≤ maxGuests)
-  pub narrow : c .settings .domains .end < domainSpan
-  pub sizes : length (c .endpoints) ≡ length (c .owners)
-  pub few : length (c .endpoints) ≤ maxEndpoints
-  pub owners : all? (λ o. ltb o (c .settings .guests)) (c .owners) ≡ true
-
-pub good-facts : (c : Config) → good c ≡ true → Good c
-unfolding good goodSettings goodLists
-good-facts c h =
-    let s = opened (settingsTests (c .settings)) (both-left (goodSettings (c .settings)) (goodLists (c .settings) (c .endpoints) (c .owners)) h) in
-    let l = opened (listTests (c .settings) (c .endpoints) (c .owners)) (both-right (goodSettings (c .settings)) (goodLists (c .settings) (c .endpoints) (c .owners)) h) in
-    record {
-      guests = (leb-true _ _ (s .0), leb-true _ _ (s .1 .0));
-      narrow = ltb-true _ _ (s .1 .1 .1 .1 .1 .1 .1 .1 .1 .0);
-      sizes = eqb-true _ _ (l .0);
-      few = leb-true _ _ (l .1 .0);
-      owners = l .1 .1 .0;
-    }
+use Rattle.rules.proofs.Records.{mine, before-guest, apart-guests, records-back, records-other, all-with, pairwise-with}
+use Rattle.rules.proofs.Groups.{Good, good-facts, Facts}
+use Rattle.rules.proofs.Parts.{Named, rule-facts}
 
 -- WHOSE CALL
 
@@ -241,6 +219,6 @@ module _ (c : Config) where
           order = refl;
           disjoint = refl;
           share = omega arith;
-          log = rw (getD-replicate (c .settings .guests) (g .0) noLog noLog l) (unfold logOk in refl);
+          log = rw (getD-replicate (c .settings .guests) (g .0) noLog noLog l) (record { count = omega arith; lost = omega arith; faults = refl });
         };
       }

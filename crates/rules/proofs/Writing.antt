@@ -5,12 +5,9 @@ use mathlib.Core.Bool.{true}
 use mathlib.Core.List.{List}
 use mathlib.Core.Option.{some, none}
 use native.Mathlib.Omega.{arith}
-use lib.Dec.{leb}
 use lib.ListN.{length, getD, take, length-take}
 use lib.Seq.{ext-getD, getD-take, length-take-le}
-use borrow.Author.Tests.{leb-true}
 use Rattle.laws.specs.Lists.{tab, pad}
-use Rattle.laws.proofs.Tests.{opened}
 use Rattle.laws.proofs.Tables.{length-tab, getD-tab, tab-is}
 use Rattle.rules.specs.declared.Guest.{Guest}
 use Rattle.rules.specs.declared.State.{State}
@@ -19,10 +16,10 @@ use Rattle.rules.specs.Sizes.{maxGuests, maxEndpoints, maxFaults, maxLos
 use Rattle.rules.specs.Configuration.{Config, good}
 use Rattle.rules.specs.Table.{records, tableOf}
 use Rattle.rules.specs.State.{Attachment, Log, World, noFault, noLog, configOf, attachment, faultAt, logAt, read, trimmed, flagOf, numberOf, logOf, faultPlaced, stateOf, write}
-use Rattle.rules.specs.Guests.{own, part}
+use Rattle.rules.specs.Guests.{part}
 use Rattle.rules.specs.Sound.{guest}
-use Rattle.rules.proofs.Parts.{logTests, logOk}
-use Rattle.rules.proofs.Worlds.{Good, good-facts, Whole}
+use Rattle.rules.proofs.Groups.{Good, good-facts}
+use Rattle.rules.proofs.Worlds.{Whole}
 use Rattle.rules.proofs.Words.{records-tableOf}
 
 -- the configuration as a state holds it
@@ -63,7 +60,7 @@ fault-back c w i h =
     rw (getD-tab faultPlaces (λ k. faultPlaced w k .reason) i 0 h, getD-tab faultPlaces (λ k. faultPlaced w k .flags) i 0 h, getD-tab faultPlaces (λ k. faultPlaced w k .endpoint .0) i 0 h, getD-tab faultPlaces (λ k. faultPlaced w k .address) i 0 h)
 
 log-room : (c : Config) (w : World) → Whole c w → (g : ℕ) → g < c .settings .guests → (length (logOf w g .faults) ≤ maxFaults) × (logOf w g .lost ≤ maxLost)
-log-room c w h g l = unfold part logOk in (let e = opened (logTests (own c (guest g)) (logOf w g)) (h .parts (guest g) l .log) in (leb-true _ _ (e .0), leb-true _ _ (e .1 .0)))
+log-room c w h g l = unfold part in (h .parts (guest g) l .log .count, h .parts (guest g) l .log .lost)
 
 pub log-back : (c : Config) (w : World) → Whole c w → (g : ℕ) → g < c .settings .guests → logAt (stateOf c w) g ≡ logOf w g
 log-back c w h g l = rw (count, lost, faults)

@@ -1,11 +1,11 @@
 -- What is claimed of the device over any list of calls. Each claim is a statement; the crate's proofs/Claims.antt proves it.
 use Prim.Native.Nat.{ℕ, _+_, _-_, _≤_, _<_}
 use mathlib.Core.Path.{_≡_}
-use mathlib.Core.Bool.{true}
+use mathlib.Core.Bool.{true, _&&_}
 use mathlib.Core.List.{List}
 use mathlib.Core.Option.{Option, some}
 use lib.ListN.{length, getD}
-use Rattle.laws.specs.Lists.{keep}
+use Rattle.laws.specs.Lists.{every?, keep, below}
 use Rattle.laws.specs.Runs.{after, given, every}
 use Rattle.rules.specs.declared.Guest.{Guest}
 use Rattle.rules.specs.declared.Endpoint.{Endpoint}
@@ -22,7 +22,7 @@ use Rattle.rules.specs.Answers.{number, usedLength, addressOf}
 use Rattle.rules.specs.Requests.{NOMEM}
 use Rattle.rules.specs.Handlers.{attachmentOf}
 use Rattle.rules.specs.Access.{hasFlag}
-use Rattle.rules.specs.Sound.{sound}
+use Rattle.rules.specs.Sound.{sound, guest, partTests, commonTests}
 use Rattle.rules.specs.Device.{request, Call, of-guest, access-by, Reply, rule, caller, owns, step, setUp}
 use Rattle.rules.specs.History.{Tally, noTally, history}
 
@@ -89,6 +89,14 @@ abbrev pub NeverUnsound : Type 0
 NeverUnsound =
     (c : Config) (table : List ℕ) → setUp c table .answer ≡ Done
     → (xs : List Call) (x : Call) → number (step (after step (setUp c table .device) xs) x .0 .answer) ≡ 2 → ⊥
+
+-- state and table are sound exactly when what is no guest's part is as soundness asks, and so is every guest's part
+abbrev pub SoundByParts : Type 0
+SoundByParts =
+    (d : Device)
+    → sound d
+    ≡ (every? (commonTests d)
+    && below (d .state .settings .guests) (λ g. every? (partTests (own (configOf (d .state)) (guest g)) (holds (configOf (d .state)) (guest g) d))))
 
 -- 5. AN ACCESS GOES THROUGH EXACTLY WHEN A LIVE RECORD PERMITS IT
 

@@ -1,4 +1,5 @@
--- "State and table are sound when:" each of these tests passes.
+-- "State and table are sound when:" every test of four groups passes, those of the frame, of the places, of the logs and of
+-- the records; and what they ask of one guest's part.
 use Prim.Native.Nat.{ℕ, _*_, _/_, _%_}
 use mathlib.Core.Bool.{Bool, true, false, cond, not, _&&_, _||_}
 use mathlib.Core.List.{List, [], _∷_}
@@ -7,15 +8,16 @@ use lib.Dec.{leb, ltb, eqb}
 use lib.ListN.{length, getD, drop}
 use Rattle.laws.specs.Lists.{all?, every?, pairwise, below, firstFailing}
 use Rattle.rules.specs.declared.Guest.{Guest}
+use Rattle.rules.specs.declared.Settings.{Settings}
 use Rattle.rules.specs.declared.State.{State}
 use Rattle.rules.specs.declared.Mapping.{Mapping}
 use Rattle.rules.specs.declared.Fault.{Fault}
 use Rattle.rules.specs.Sizes.{maxRecords, recordWords, tableWords, maxFaults, faultPlaces, maxLost}
 use Rattle.rules.specs.Configuration.{Config, share, good}
-use Rattle.rules.specs.Table.{guestOf, domainOf, before, overlap}
-use Rattle.rules.specs.State.{World, Device, configOf, read, faultAt}
-use Rattle.rules.specs.Guests.{Own, own, part, recordsOf}
-use Rattle.rules.specs.Handlers.{Steps, outside, listed, recordSteps}
+use Rattle.rules.specs.Table.{guestOf, domainOf, before, apart}
+use Rattle.rules.specs.State.{Attachment, World, Device, configOf, read, faultAt}
+use Rattle.rules.specs.Guests.{Own, Part, own, part, recordsOf}
+use Rattle.rules.specs.Handlers.{outside, listed, recordSteps}
 
 abbrev pub guest : ℕ → Guest
 guest g = record { 0 = g }
@@ -25,34 +27,29 @@ abbrev pub passes : {A : Type 0} → Option A → Bool
 passes none = true
 passes (some a) = false
 
--- "every record would pass steps 1 to 6 of MAP", for the guest and the domain that its first word names
-unfoldable pub recordGood : Config → World → Mapping → Bool
-recordGood c w r =
-    passes (firstFailing (recordSteps (own c (guest (guestOf r))) (part c (guest (guestOf r)) w .attachments) (domainOf r) r))
+-- every place from n on is zero
+unfoldable pub zeroFrom : ℕ → List ℕ → Bool
+zeroFrom n l = all? (eqb 0) (drop n l)
+
+-- THE FRAME: table, configuration and counts
+
+abbrev pub frameTests : Device → List Bool
+frameTests d =
+    -- "table length is not 1,280 words"
+    eqb (length (d .table)) tableWords
+    -- "the configuration is good", with as many endpoints as the state counts
+    ∷ good (configOf (d .state))
+    ∷ eqb (length (configOf (d .state) .endpoints)) (d .state .listed)
+    -- "the live count is at most 256"
+    ∷ leb (d .state .live) maxRecords
+    ∷ []
+
+-- THE PLACES of guests and of endpoints
 
 -- "every attached endpoint's domain lies in the domain range and every unattached one holds 0"; the flag is 0 or 1
 unfoldable pub attachmentGood : Config → ℕ → ℕ → Bool
 attachmentGood c flag d =
     (eqb flag 1 && not (outside (c .settings .domains .start) (c .settings .domains .end) d)) || (eqb flag 0 && eqb d 0)
-
--- "each logged fault has the form below and names an endpoint of its guest": reason 1 or 2, READ or WRITE plus ADDRESS
-unfoldable pub faultGood : Own → Fault → Bool
-faultGood o f =
-    (eqb (f .reason) 1 || eqb (f .reason) 2) && ((eqb (f .flags) 257 || eqb (f .flags) 258) && listed (f .endpoint) (o .endpoints))
-
--- every place from n on is zero
-unfoldable pub zeroFrom : ℕ → List ℕ → Bool
-zeroFrom n l = all? (eqb 0) (drop n l)
-
-abbrev pub faultZero : Fault → Bool
-faultZero f = (eqb (f .reason) 0 && eqb (f .flags) 0) && (eqb (f .endpoint .0) 0 && eqb (f .address) 0)
-
--- place i of the faults: in use, as the log's count says, with a fault of its guest's; else zero
-unfoldable pub faultPlaceGood : Config → State → ℕ → Bool
-faultPlaceGood c s i =
-    cond (ltb (i % maxFaults) (getD (s .logged) (i / maxFaults) 0))
-    (faultGood (own c (guest (i / maxFaults))) (faultAt s i))
-    (faultZero (faultAt s i))
 
 -- "Guest and endpoint places not in use are zero too"
 abbrev pub unusedTests : State → List Bool
@@ -68,35 +65,116 @@ unusedTests s =
     ∷ zeroFrom (s .listed) (s .domains)
     ∷ []
 
-abbrev pub soundTests : Config → World → Device → List Bool
-soundTests c w d =
-    -- "table length is not 1,280 words"
-    eqb (length (d .table)) tableWords
-    -- "the configuration is good", with as many endpoints as the state counts
-    ∷ good c
-    ∷ eqb (length (c .endpoints)) (d .state .listed)
-    -- "the live count is at most 256"
-    ∷ leb (d .state .live) maxRecords
-    -- "order and zero words are as above"
-    ∷ pairwise before (w .records)
-    ∷ zeroFrom (recordWords * d .state .live) (d .table)
-    -- "every record would pass steps 1 to 6 of MAP"
-    ∷ all? (recordGood c w) (w .records)
-    -- "no two records of one guest and domain overlap"
-    ∷ pairwise (λ r s. not (overlap r s)) (w .records)
-    -- "no guest holds more than its share"
-    ∷ below (c .settings .guests) (λ g. leb (length (recordsOf (guest g) (w .records))) (share (c .settings) g))
+abbrev pub placeTests : State → List Bool
+placeTests s =
     -- "every attached endpoint's domain lies in the domain range and every unattached one holds 0"
-    ∷ below (d .state .listed) (λ i. attachmentGood c (getD (d .state .attached) i 0) (getD (d .state .domains) i 0))
+    below (s .listed) (λ i. attachmentGood (configOf s) (getD (s .attached) i 0) (getD (s .domains) i 0))
     -- "log counts are at most 16, lost counts at most 65,535"
-    ∷ below (c .settings .guests) (λ g. leb (getD (d .state .logged) g 0) maxFaults)
-    ∷ below (c .settings .guests) (λ g. leb (getD (d .state .lost) g 0) maxLost)
+    ∷ below (s .settings .guests) (λ g. leb (getD (s .logged) g 0) maxFaults)
+    ∷ below (s .settings .guests) (λ g. leb (getD (s .lost) g 0) maxLost)
     -- "unused places zero"
-    ∷ every? (unusedTests (d .state))
-    -- "and each logged fault has the form below and names an endpoint of its guest"
-    ∷ below faultPlaces (faultPlaceGood c (d .state))
+    ∷ every? (unusedTests s)
     ∷ []
 
--- document 01's term "sound"
+-- THE LOGS of faults
+
+-- "each logged fault has the form below and names an endpoint of its guest": reason 1 or 2, READ or WRITE plus ADDRESS
+unfoldable pub faultGood : Own → Fault → Bool
+faultGood o f =
+    (eqb (f .reason) 1 || eqb (f .reason) 2) && ((eqb (f .flags) 257 || eqb (f .flags) 258) && listed (f .endpoint) (o .endpoints))
+
+abbrev pub faultZero : Fault → Bool
+faultZero f = (eqb (f .reason) 0 && eqb (f .flags) 0) && (eqb (f .endpoint .0) 0 && eqb (f .address) 0)
+
+-- place i of the faults is in use, as the log's count says
+abbrev pub faultUsed : State → ℕ → Bool
+faultUsed s i = ltb (i % maxFaults) (getD (s .logged) (i / maxFaults) 0)
+
+-- place i of the faults: in use, with a fault of its guest's; else zero
+unfoldable pub faultPlaceGood : Config → State → ℕ → Bool
+faultPlaceGood c s i = cond (faultUsed s i) (faultGood (own c (guest (i / maxFaults))) (faultAt s i)) (faultZero (faultAt s i))
+
+abbrev pub logTests : State → List Bool
+logTests s =
+    -- "unused places zero, and each logged fault has the form below and names an endpoint of its guest"
+    below faultPlaces (faultPlaceGood (configOf s) s)
+    ∷ []
+
+-- THE RECORDS of the table
+
+-- "every record would pass steps 1 to 6 of MAP", for its guest, whose attachments are l, and the domain that its first word names
+unfoldable pub recordGood : Own → List Attachment → Mapping → Bool
+recordGood o l r = passes (firstFailing (recordSteps o l (domainOf r) r))
+
+-- the same, for the guest that its first word names
+abbrev pub recordPasses : Config → World → Mapping → Bool
+recordPasses c w r = recordGood (own c (guest (guestOf r))) (part c (guest (guestOf r)) w .attachments) r
+
+-- "no guest holds more than its share"
+abbrev pub sharesKept : Settings → List Mapping → Bool
+sharesKept s l = below (s .guests) (λ g. leb (length (recordsOf (guest g) l)) (share s g))
+
+abbrev pub recordTests : Device → List Bool
+recordTests d =
+    -- "order and zero words are as above"
+    pairwise before (read d .records)
+    ∷ zeroFrom (recordWords * d .state .live) (d .table)
+    -- "every record would pass steps 1 to 6 of MAP"
+    ∷ all? (recordPasses (configOf (d .state)) (read d)) (read d .records)
+    -- "no two records of one guest and domain overlap"
+    ∷ pairwise apart (read d .records)
+    -- "no guest holds more than its share"
+    ∷ sharesKept (d .state .settings) (read d .records)
+    ∷ []
+
+-- document 01's term "sound": every test of the four groups passes
 unfoldable pub sound : Device → Bool
-sound d = every? (soundTests (configOf (d .state)) (read d) d)
+sound d = every? (every? (frameTests d) ∷ every? (placeTests (d .state)) ∷ every? (logTests (d .state)) ∷ every? (recordTests d) ∷ [])
+
+-- ONE GUEST'S PART, AND WHAT IS NO GUEST'S
+
+-- "every attached endpoint's domain lies in the domain range"
+unfoldable pub inRange : Own → Attachment → Bool
+inRange o none = true
+inRange o (some d) = not (outside (o .domains .start) (o .domains .end) (d .0))
+
+-- what soundness asks of a guest's part
+abbrev pub partTests : Own → Part → List Bool
+partTests o p =
+    -- "every attached endpoint's domain lies in the domain range"
+    all? (inRange o) (p .attachments)
+    -- "ascending by first word, then by virt_start"
+    ∷ pairwise before (p .records)
+    -- "every record would pass steps 1 to 6 of MAP"
+    ∷ all? (recordGood o (p .attachments)) (p .records)
+    -- "no two records of one guest and domain overlap"
+    ∷ pairwise apart (p .records)
+    -- "no guest holds more than its share"
+    ∷ leb (length (p .records)) (o .share)
+    -- "log counts are at most 16, lost counts at most 65,535"
+    ∷ leb (length (p .log .faults)) maxFaults
+    ∷ leb (p .log .lost) maxLost
+    -- "each logged fault has the form below and names an endpoint of its guest"
+    ∷ all? (faultGood o) (p .log .faults)
+    ∷ []
+
+-- an attached flag is 0 or 1, "and every unattached one holds 0"
+unfoldable pub flagGood : ℕ → ℕ → Bool
+flagGood flag d = eqb flag 1 || (eqb flag 0 && eqb d 0)
+
+-- what soundness asks besides, of what is no guest's part
+abbrev pub commonTests : Device → List Bool
+commonTests d =
+    -- "the configuration is good; the live count is at most 256", and the table's length
+    every? (frameTests d)
+    -- every record is a guest's, and the guests' records stand in the guests' order
+    ∷ all? (λ r. ltb (guestOf r) (d .state .settings .guests)) (read d .records)
+    ∷ pairwise (λ r s. leb (guestOf r) (guestOf s)) (read d .records)
+    -- "all other words are zero"
+    ∷ zeroFrom (recordWords * d .state .live) (d .table)
+    -- "every unattached one holds 0"
+    ∷ below (d .state .listed) (λ i. flagGood (getD (d .state .attached) i 0) (getD (d .state .domains) i 0))
+    -- "unused places zero"
+    ∷ every? (unusedTests (d .state))
+    ∷ below faultPlaces (λ i. faultUsed (d .state) i || faultZero (faultAt (d .state) i))
+    ∷ []

@@ -1,7 +1,7 @@
 -- "The mapping table is 1,280 lent 64-bit words: 256 records of five words (guest × 2^32 + domain, virt_start, virt_end,
 -- phys_start, flags). Live records stand first, ascending by first word, then by virt_start; all other words are zero."
 use Prim.Native.Nat.{ℕ, _+_, _-_, _*_, _/_, _%_}
-use mathlib.Core.Bool.{Bool, cond, _&&_, _||_}
+use mathlib.Core.Bool.{Bool, cond, not, _&&_, _||_}
 use mathlib.Core.List.{List, [], _∷_, _++_}
 use lib.Dec.{leb, ltb, eqb}
 use lib.ListN.{length, replicate}
@@ -50,6 +50,10 @@ before r s = ltb (r .key) (s .key) || (eqb (r .key) (s .key) && ltb (r .start) (
 -- two records of one guest and domain have an address in common
 unfoldable pub overlap : Mapping → Mapping → Bool
 overlap r s = eqb (r .key) (s .key) && (leb (r .start) (s .end) && leb (s .start) (r .end))
+
+-- two records that have none
+abbrev pub apart : Mapping → Mapping → Bool
+apart r s = not (overlap r s)
 
 -- a record at its place in the order
 abbrev pub insertMapping : Mapping → List Mapping → List Mapping

@@ -1,19 +1,19 @@
 -- The places of a guest's log, and those of all logs.
 use Prim.Native.Nat.{ℕ, _+_, _-_, _*_, _/_, _%_, _≤_, _<_, min}
 use mathlib.Core.Path.{_≡_, sym, ap, _∙_}
-use mathlib.Core.Bool.{Bool, _&&_}
+use mathlib.Core.Bool.{Bool, _&&_, and-true}
 use mathlib.Core.List.{List}
 use native.Mathlib.Nat.{add-assoc}
 use native.Mathlib.Omega.{arith}
 use lib.ListN.{length, getD, take}
 use borrow.Author.Tests.{lt-ltb, le-ltb}
-use Rattle.laws.specs.Lists.{below, pickBy, tab}
+use Rattle.laws.specs.Lists.{every?, below, pickBy, tab}
 use Rattle.laws.proofs.Turns.{below-same, below-append, below-grid}
 use Rattle.rules.specs.declared.Fault.{Fault}
 use Rattle.rules.specs.Sizes.{maxGuests, maxEndpoints, maxFaults, faultPlaces}
 use Rattle.rules.specs.State.{configOf}
 use Rattle.rules.specs.Guests.{own}
-use Rattle.rules.specs.Sound.{faultGood, faultZero, faultPlaceGood}
+use Rattle.rules.specs.Sound.{faultGood, faultZero, faultPlaceGood, logTests}
 use Rattle.sound_logs.specs.Faults.{faultsAlone, endpointsAlone, faultIn, placeGood, ownerAmong}
 use Rattle.sound_logs.proofs.Listed.{pick-listed}
 
@@ -33,8 +33,7 @@ log-split first count es f =
 module _ (n : ℕ) (listed : n ≤ maxEndpoints) (endpoints owners logged reasons flags sources addresses : List ℕ) (e : length owners ≡ maxEndpoints) where
   -- guest by guest, and place by place
   pub logs-good : below maxGuests (λ g. below maxFaults (λ j. placeGood (getD logged g 0) (pickBy g (tab maxEndpoints (ownerAmong n owners)) endpoints) j (faultIn reasons flags sources addresses (maxFaults * g + j))))
-      ≡ below faultPlaces
-      (faultPlaceGood (configOf (faultsAlone n endpoints owners logged reasons flags sources addresses)) (faultsAlone n endpoints owners logged reasons flags sources addresses))
+      ≡ every? (logTests (faultsAlone n endpoints owners logged reasons flags sources addresses))
   unfolding faultPlaceGood faultGood configOf own
   logs-good =
       let s = faultsAlone n endpoints owners logged reasons flags sources addresses in
@@ -46,3 +45,4 @@ module _ (n : ℕ) (listed : n ≤ maxEndpoints) (endpoints owners logged reason
       let place : (maxFaults * g + j) % maxFaults ≡ j = omega arith in
       rw (row, place, pick-listed g h n listed owners endpoints e)))
       ∙ below-grid maxFaults maxGuests (faultPlaceGood (configOf s) s)
+      ∙ sym (and-true (below faultPlaces (faultPlaceGood (configOf s) s)))

@@ -1,28 +1,28 @@
 -- Where no log has a fault, all places for faults are zero.
 use Prim.Native.Nat.{ℕ, _+_, _/_, _%_}
-use mathlib.Core.Path.{_≡_, refl}
-use mathlib.Core.Bool.{Bool, true, false, _&&_, and-false}
+use mathlib.Core.Path.{_≡_, refl, _∙_}
+use mathlib.Core.Bool.{Bool, true, false, _&&_, and-true, and-false}
 use native.Mathlib.Nat.{zero-add}
 use native.Mathlib.Omega.{arith}
 use lib.Bits.{bitOr}
 use lib.Dec.{eqb}
 use lib.ListN.{getD}
 use borrow.Author.Tests.{eqb-true, le-ltb}
-use Rattle.laws.specs.Lists.{below}
+use Rattle.laws.specs.Lists.{every?, below}
 use Rattle.laws.proofs.Bits.{or-zero}
 use Rattle.laws.proofs.Tables.{below-at}
 use Rattle.laws.proofs.Turns.{below-same}
 use Rattle.rules.specs.declared.State.{State}
 use Rattle.rules.specs.Sizes.{maxGuests, maxFaults, faultPlaces}
-use Rattle.rules.specs.Configuration.{Config}
-use Rattle.rules.specs.State.{faultAt}
-use Rattle.rules.specs.Sound.{faultZero, faultPlaceGood}
+use Rattle.rules.specs.State.{configOf, faultAt}
+use Rattle.rules.specs.Sound.{faultZero, faultPlaceGood, logTests}
 
 -- a log that has no fault has all its places zero
-pub no-faults : (c : Config) (s : State) → below maxGuests (λ g. eqb (getD (s .logged) g 0) 0) ≡ true → below faultPlaces (faultPlaceGood c s) ≡ below faultPlaces (λ i. faultZero (faultAt s (0 + i)))
+pub no-faults : (s : State) → below maxGuests (λ g. eqb (getD (s .logged) g 0) 0) ≡ true → every? (logTests s) ≡ below faultPlaces (λ i. faultZero (faultAt s (0 + i)))
 unfolding faultPlaceGood
-no-faults c s h =
-    below-same faultPlaces (faultPlaceGood c s) (λ i. faultZero (faultAt s (0 + i)))
+no-faults s h =
+    and-true (below faultPlaces (faultPlaceGood (configOf s) s))
+    ∙ below-same faultPlaces (faultPlaceGood (configOf s) s) (λ i. faultZero (faultAt s (0 + i)))
     (λ i k.
     let none : getD (s .logged) (i / maxFaults) 0 ≡ 0 = eqb-true _ 0 (below-at maxGuests _ (i / maxFaults) h (omega arith)) in
     rw (none, le-ltb (i % maxFaults) 0 (omega arith), zero-add i))

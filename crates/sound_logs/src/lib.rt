@@ -8,10 +8,9 @@ ghost use mathlib.Core.Bool.{_&&_};
 ghost use Prim.Native.Nat.{_≤_};
 ghost use lib.Dec.{leb};
 ghost use lib.ListN.{length};
-ghost use Rattle.laws.specs.Lists.{below};
-ghost use Rattle.rules.specs.Sizes.{maxEndpoints, faultPlaces};
-ghost use Rattle.rules.specs.State.{configOf};
-ghost use Rattle.rules.specs.Sound.{faultPlaceGood};
+ghost use Rattle.laws.specs.Lists.{every?};
+ghost use Rattle.rules.specs.Sizes.{maxEndpoints};
+ghost use Rattle.rules.specs.Sound.{logTests};
 ghost use Rattle.sound_logs.specs.Faults.{faultsAlone};
 use empty::none_logged;
 use empty::zero_places;
@@ -34,7 +33,7 @@ fn places_good<'a>(
     addresses: &'a [u64; FAULT_PLACES],
 ) -> bool
     requires { ⌜ (n ≤ maxEndpoints) × (length (now owners) ≡ maxEndpoints) × (length (now endpoints) ≡ maxEndpoints) ⌝ }
-    ensures { λ r. ⌜ r ≡ below faultPlaces (faultPlaceGood (configOf (faultsAlone n (now (endpoints .entry)) (now (owners .entry)) (now (logged .entry)) (now (reasons .entry)) (now (flags .entry)) (now (sources .entry)) (now (addresses .entry)))) (faultsAlone n (now (endpoints .entry)) (now (owners .entry)) (now (logged .entry)) (now (reasons .entry)) (now (flags .entry)) (now (sources .entry)) (now (addresses .entry)))) ⌝ }
+    ensures { λ r. ⌜ r ≡ every? (logTests (faultsAlone n (now (endpoints .entry)) (now (owners .entry)) (now (logged .entry)) (now (reasons .entry)) (now (flags .entry)) (now (sources .entry)) (now (addresses .entry)))) ⌝ }
 {
     let listed = owners_among(n, owners);
     let hints = hints_of(endpoints);
@@ -69,7 +68,7 @@ pub fn faults_good<'a>(
     sources: &'a [u32; FAULT_PLACES],
     addresses: &'a [u64; FAULT_PLACES],
 ) -> bool
-    ensures { λ r. ⌜ r ≡ (leb n maxEndpoints && below faultPlaces (faultPlaceGood (configOf (faultsAlone n (now (endpoints .entry)) (now (owners .entry)) (now (logged .entry)) (now (reasons .entry)) (now (flags .entry)) (now (sources .entry)) (now (addresses .entry)))) (faultsAlone n (now (endpoints .entry)) (now (owners .entry)) (now (logged .entry)) (now (reasons .entry)) (now (flags .entry)) (now (sources .entry)) (now (addresses .entry))))) ⌝ }
+    ensures { λ r. ⌜ r ≡ (leb n maxEndpoints && every? (logTests (faultsAlone n (now (endpoints .entry)) (now (owners .entry)) (now (logged .entry)) (now (reasons .entry)) (now (flags .entry)) (now (sources .entry)) (now (addresses .entry))))) ⌝ }
 {
     if MAX_ENDPOINTS < n {
         return false;

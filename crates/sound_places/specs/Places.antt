@@ -4,14 +4,13 @@ use mathlib.Core.Bool.{Bool, not, _&&_, _||_}
 use mathlib.Core.List.{List, [], _∷_}
 use lib.Dec.{leb, ltb, eqb}
 use lib.ListN.{getD}
-use Rattle.laws.specs.Lists.{every?, below}
+use Rattle.laws.specs.Lists.{every?}
 use Rattle.rules.specs.Sizes.{maxFaults, maxLost}
 use Rattle.rules.specs.declared.Settings.{Settings}
 use Rattle.rules.specs.declared.DomainRange.{DomainRange}
 use Rattle.rules.specs.declared.State.{State}
 use Rattle.rules.specs.Configuration.{Config, share, windowFirst, windowLast}
-use Rattle.rules.specs.State.{configOf}
-use Rattle.rules.specs.Sound.{attachmentGood, unusedTests}
+use Rattle.rules.specs.Sound.{attachmentGood}
 use Rattle.state.specs.Pieces.{stateWith}
 
 -- a guest's numbers: in use, with log count and lost count within their limits, or zero
@@ -41,16 +40,7 @@ abbrev pub endpointPlace : DomainRange → ℕ → List ℕ → List ℕ → Lis
 endpointPlace range n endpoints owners attached domains i =
     endpointGood range (ltb i n) (getD endpoints i 0) (getD owners i 0) (getD attached i 0) (getD domains i 0)
 
--- the tests of soundness that look at these places, in their order
-abbrev pub placeTests : State → List Bool
-placeTests s =
-    below (s .listed) (λ i. attachmentGood (configOf s) (getD (s .attached) i 0) (getD (s .domains) i 0))
-    ∷ below (s .settings .guests) (λ g. leb (getD (s .logged) g 0) maxFaults)
-    ∷ below (s .settings .guests) (λ g. leb (getD (s .lost) g 0) maxLost)
-    ∷ every? (unusedTests s)
-    ∷ []
-
--- a state of these places alone
+-- a state of these places alone: what soundness' tests of the places look at
 abbrev pub placesAlone : Settings → ℕ → List ℕ → List ℕ → List ℕ → List ℕ → List ℕ → List ℕ → State
 placesAlone settings listed endpoints owners attached domains logged lost =
     stateWith settings listed 0 endpoints owners attached domains logged lost [] [] [] []

@@ -1,3 +1,4 @@
+pub mod Room
 pub mod Order
 pub mod Attached
 mod GoingOn

@@ -7,12 +7,12 @@ use mathlib.Core.Logic.{_⊎_, inl, inr}
 use native.Mathlib.Omega.{arith}
 use lib.Dec.{leb, ltb, eqb}
 use borrow.Author.Tests.{ltb-true, ltb-false, eqb-true, eq-eqb, ne-eqb, lt-ltb, le-leb, lt-leb}
-use Rattle.laws.specs.Lists.{all?, every?, pairwise}
-use Rattle.laws.proofs.Tests.{both, both-left, both-right, true-false, or-cases, or-left, or-right, same-test, Each, opened, closed}
+use Rattle.laws.specs.Lists.{all?, pairwise}
+use Rattle.laws.proofs.Tests.{both, both-left, both-right, true-false, or-cases, or-left, or-right}
 use Rattle.laws.proofs.Filters.{all-imp}
 use Rattle.rules.specs.declared.Mapping.{Mapping}
-use Rattle.rules.specs.Table.{before, overlap}
-use Rattle.rules.proofs.Records.{before-cases, before-lower, before-same, before-trans, wide, apart}
+use Rattle.rules.specs.Table.{before, overlap, apart}
+use Rattle.rules.proofs.Records.{before-cases, before-lower, before-same, before-trans, wide}
 use Rattle.table.specs.Records.{noMapping}
 use Rattle.sound_records.specs.Scan.{follows, scan}
 
@@ -82,22 +82,36 @@ before-follows r s w b a = go (before-cases r s b)
         or-right (ltb (r .key) (s .key)) (eqb (r .key) (s .key) && ltb (r .end) (s .start))
         (both (eqb (r .key) (s .key)) (ltb (r .end) (s .start)) (eq-eqb (r .key) (s .key) (h .0)) (ends (h .0) (h .1) (ltb (r .end) (s .start)) refl))
 
--- what the scan of the records l after p shows
+-- in order, apart, and each with its tests passed: what the scan of the records l shows
+pub record Scanned (form domain : Mapping → Bool) (l : List Mapping) : Type 0 where
+  pub forms : all? form l ≡ true
+  pub exist : all? domain l ≡ true
+  pub order : pairwise before l ≡ true
+  pub disjoint : pairwise apart l ≡ true
+
+-- and where it goes on after p
 record Linked (form domain : Mapping → Bool) (p : Mapping) (l : List Mapping) : Type 0 where
-  forms : all? form l ≡ true
-  exist : all? domain l ≡ true
+  scanned : Scanned form domain l
   later : all? (before p) l ≡ true
   beyond : all? (apart p) l ≡ true
-  order : pairwise before l ≡ true
-  disjoint : pairwise apart l ≡ true
 
 module _ (form domain : Mapping → Bool) (filled : (r : Mapping) → form r ≡ true → wide r ≡ true) (keyed : (r s : Mapping) → r .key ≡ s .key → domain r ≡ true → domain s ≡ true) where
   -- what the scan asks of a record r after p
   abbrev own : Mapping → Mapping → Bool
   own p r = form r && (follows p r && (eqb (p .key) (r .key) || domain r))
 
+  -- a record before records that were scanned, where it is before and apart from each
+  link : (r : Mapping) (l : List Mapping) → form r ≡ true → domain r ≡ true → Linked form domain r l → Scanned form domain (r ∷ l)
+  link r l f e i =
+      record {
+        forms = both (form r) (all? form l) f (i .scanned .forms);
+        exist = both (domain r) (all? domain l) e (i .scanned .exist);
+        order = both (all? (before r) l) (pairwise before l) (i .later) (i .scanned .order);
+        disjoint = both (all? (apart r) l) (pairwise apart l) (i .beyond) (i .scanned .disjoint);
+      }
+
   linked : (p : Mapping) (l : List Mapping) → wide p ≡ true → domain p ≡ true → scan form domain false p l ≡ true → Linked form domain p l
-  linked p [] w d h = record { forms = refl; exist = refl; later = refl; beyond = refl; order = refl; disjoint = refl }
+  linked p [] w d h = record { scanned = record { forms = refl; exist = refl; order = refl; disjoint = refl }; later = refl; beyond = refl }
   linked p (r ∷ l) w d h = go (linked r l (filled r f) e (both-right (own p r) (scan form domain false r l) h))
     where
       step : own p r ≡ true
@@ -122,64 +136,43 @@ module _ (form domain : Mapping → Bool) (filled : (r : Mapping) → form r ≡
       go : Linked form domain r l → Linked form domain p (r ∷ l)
       go i =
           record {
-            forms = both (form r) (all? form l) f (i .forms);
-            exist = both (domain r) (all? domain l) e (i .exist);
+            scanned = link r l f e i;
             later = both (before p r) (all? (before p) l) (follows-before p r w n) (all-imp (before r) (before p) l (λ t k. before-trans p r t (follows-before p r w n) k) (i .later));
             beyond = both (apart p r) (all? (apart p) l) (follows-apart p r n) (all-imp (before r) (apart p) l (λ t k. follows-beyond p r t n k) (i .later));
-            order = both (all? (before r) l) (pairwise before l) (i .later) (i .order);
-            disjoint = both (all? (apart r) l) (pairwise apart l) (i .beyond) (i .disjoint);
           }
 
-  -- in order, apart, and each with its tests passed
-  abbrev pub recordTests : List Mapping → List Bool
-  recordTests l = pairwise before l ∷ all? form l ∷ all? domain l ∷ pairwise apart l ∷ []
-
-  from-scan : (l : List Mapping) → scan form domain true noMapping l ≡ true → Each (recordTests l)
-  from-scan [] h = (refl, (refl, (refl, (refl, tt))))
+  -- one pass shows all four
+  pub from-scan : (l : List Mapping) → scan form domain true noMapping l ≡ true → Scanned form domain l
+  from-scan [] h = record { forms = refl; exist = refl; order = refl; disjoint = refl }
   from-scan (r ∷ l) h =
       let step = both-left (form r && (true && domain r)) (scan form domain false r l) h in
       let f = both-left (form r) (domain r) step in
       let e = both-right (form r) (domain r) step in
-      let i = linked r l (filled r f) e (both-right (form r && (true && domain r)) (scan form domain false r l) h) in (
-        both (all? (before r) l) (pairwise before l) (i .later) (i .order),
-        (
-          both (form r) (all? form l) f (i .forms),
-          (
-            both (domain r) (all? domain l) e (i .exist),
-            (both (all? (apart r) l) (pairwise apart l) (i .beyond) (i .disjoint), tt),
-          ),
-        ),
-      )
+      link r l f e (linked r l (filled r f) e (both-right (form r && (true && domain r)) (scan form domain false r l) h))
 
-  rest : (r : Mapping) (l : List Mapping) → Each (recordTests (r ∷ l)) → Each (recordTests l)
-  rest r l t = (
-    both-right (all? (before r) l) (pairwise before l) (t .0),
-    (
-      both-right (form r) (all? form l) (t .1 .0),
-      (
-        both-right (domain r) (all? domain l) (t .1 .1 .0),
-        (both-right (all? (apart r) l) (pairwise apart l) (t .1 .1 .1 .0), tt),
-      ),
-    ),
-  )
+  rest : (r : Mapping) (l : List Mapping) → Scanned form domain (r ∷ l) → Scanned form domain l
+  rest r l t =
+      record {
+        forms = both-right (form r) (all? form l) (t .forms);
+        exist = both-right (domain r) (all? domain l) (t .exist);
+        order = both-right (all? (before r) l) (pairwise before l) (t .order);
+        disjoint = both-right (all? (apart r) l) (pairwise apart l) (t .disjoint);
+      }
 
-  on-scan : (p : Mapping) (l : List Mapping) → all? (before p) l ≡ true → all? (apart p) l ≡ true → Each (recordTests l) → scan form domain false p l ≡ true
+  on-scan : (p : Mapping) (l : List Mapping) → all? (before p) l ≡ true → all? (apart p) l ≡ true → Scanned form domain l → scan form domain false p l ≡ true
   on-scan p [] b a t = refl
   on-scan p (r ∷ l) b a t =
-      let f = both-left (form r) (all? form l) (t .1 .0) in
+      let f = both-left (form r) (all? form l) (t .forms) in
       both (own p r) (scan form domain false r l)
       (both (form r) (follows p r && (eqb (p .key) (r .key) || domain r)) f
       (both (follows p r) (eqb (p .key) (r .key) || domain r) (before-follows p r (filled r f) (both-left (before p r) _ b) (both-left (apart p r) _ a))
-      (or-right (eqb (p .key) (r .key)) (domain r) (both-left (domain r) _ (t .1 .1 .0)))))
-      (on-scan r l (both-left (all? (before r) l) _ (t .0)) (both-left (all? (apart r) l) _ (t .1 .1 .1 .0)) (rest r l t))
+      (or-right (eqb (p .key) (r .key)) (domain r) (both-left (domain r) _ (t .exist)))))
+      (on-scan r l (both-left (all? (before r) l) _ (t .order)) (both-left (all? (apart r) l) _ (t .disjoint)) (rest r l t))
 
-  to-scan : (l : List Mapping) → Each (recordTests l) → scan form domain true noMapping l ≡ true
+  -- and is passed where all four hold
+  pub to-scan : (l : List Mapping) → Scanned form domain l → scan form domain true noMapping l ≡ true
   to-scan [] t = refl
   to-scan (r ∷ l) t =
       both (form r && (true && domain r)) (scan form domain false r l)
-      (both (form r) (domain r) (both-left (form r) _ (t .1 .0)) (both-left (domain r) _ (t .1 .1 .0)))
-      (on-scan r l (both-left (all? (before r) l) _ (t .0)) (both-left (all? (apart r) l) _ (t .1 .1 .1 .0)) (rest r l t))
-
-  -- one pass decides all four tests
-  pub scan-is : (l : List Mapping) → scan form domain true noMapping l ≡ every? (recordTests l)
-  scan-is l = same-test (scan form domain true noMapping l) (every? (recordTests l)) (λ h. closed (recordTests l) (from-scan l h)) (λ h. to-scan l (opened (recordTests l) h))
+      (both (form r) (domain r) (both-left (form r) _ (t .forms)) (both-left (domain r) _ (t .exist)))
+      (on-scan r l (both-left (all? (before r) l) _ (t .order)) (both-left (all? (apart r) l) _ (t .disjoint)) (rest r l t))

@@ -15,12 +15,12 @@ use Rattle.rules.specs.Sizes.{maxGuests}
 use Rattle.rules.specs.Configuration.{share, windowFirst, windowLast}
 use Rattle.rules.specs.Table.{guestOf}
 use Rattle.rules.specs.Guests.{recordsOf}
-use Rattle.rules.specs.Sound.{guest}
+use Rattle.rules.specs.Sound.{guest, sharesKept}
 use Rattle.table.specs.Records.{noMapping}
 use Rattle.table.proofs.Laws.{gone}
 use Rattle.forms.specs.Forms.{formGood, run}
 use Rattle.forms.proofs.Going.{now-at}
-use Rattle.sound_records.specs.Scan.{ownGood, scan, opening, sharesKept}
+use Rattle.sound_records.specs.Scan.{ownGood, scan, opening}
 use Rattle.laws.proofs.Turns.{below-same}
 use Rattle.sound_records.proofs.GoingOn.{run-own, run-other}
 
@@ -79,7 +79,6 @@ module _ (l : List Mapping) (n i : ℕ) (x : Mapping) (h : i < length (take n l)
 
 -- past the last record the counts are the guests' records
 pub count-end : (s : Settings) (l : List Mapping) (n i : ℕ) (counts : List ℕ) → length (take n l) ≤ i → s .guests ≤ maxGuests → Counted counts i (take n l) → below (s .guests) (λ g. leb (getD counts g 0) (share s g)) ≡ sharesKept s (take n l)
-unfolding sharesKept
 count-end s l n i counts h k c =
     below-same (s .guests) (λ g. leb (getD counts g 0) (share s g)) (λ g. leb (length (recordsOf (guest g) (take n l))) (share s g))
     (λ g m.

@@ -4,16 +4,14 @@ use mathlib.Core.Bool.{Bool, true, false, not, _&&_, _||_}
 use mathlib.Core.List.{List, [], _∷_}
 use lib.Dec.{leb, ltb, eqb}
 use lib.ListN.{length, getD, take}
-use Rattle.laws.specs.Lists.{below, pickBy, tab}
+use Rattle.laws.specs.Lists.{pickBy, tab}
 use Rattle.rules.specs.declared.Settings.{Settings}
 use Rattle.rules.specs.declared.Mapping.{Mapping}
 use Rattle.rules.specs.Sizes.{maxGuests, maxEndpoints}
-use Rattle.rules.specs.Configuration.{share, windowFirst, windowLast}
+use Rattle.rules.specs.Configuration.{windowFirst, windowLast}
 use Rattle.rules.specs.State.{Attachment, attachment}
 use Rattle.rules.specs.Table.{records, guestOf, domainOf}
-use Rattle.rules.specs.Guests.{recordsOf}
 use Rattle.rules.specs.Handlers.{exists}
-use Rattle.rules.specs.Sound.{guest}
 use Rattle.forms.specs.Forms.{formGood}
 
 -- the attachments of guest g, among the first n endpoints
@@ -44,11 +42,7 @@ abbrev pub opening : (Mapping → Bool) → (Mapping → Bool) → Bool → ℕ 
 opening form domain start key [] = true
 opening form domain start key (r ∷ l) = (form r && ((start || ltb key (r .key)) && domain r)) && scan form domain false r l
 
--- "no guest holds more than its share"
-unfoldable pub sharesKept : Settings → List Mapping → Bool
-sharesKept s l = below (s .guests) (λ g. leb (length (recordsOf (guest g) l)) (share s g))
-
 -- guests, endpoints and live records are as many as there are places for, and the mask has a lowest set bit
-abbrev pub placesTests : Settings → ℕ → ℕ → List ℕ → List Bool
-placesTests s listed live table =
+abbrev pub roomTests : Settings → ℕ → ℕ → List ℕ → List Bool
+roomTests s listed live table =
     leb (s .guests) maxGuests ∷ ltb 0 (s .mask) ∷ leb listed maxEndpoints ∷ leb live (length (records table)) ∷ []

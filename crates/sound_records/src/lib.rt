@@ -9,6 +9,7 @@ ghost use lib.ListN.{length, take};
 ghost use Rattle.laws.specs.Lists.{every?};
 ghost use Rattle.rules.specs.Sizes.{maxGuests, maxEndpoints};
 ghost use Rattle.rules.specs.Table.{records};
+ghost use Rattle.rules.specs.Sound.{sharesKept};
 ghost use Rattle.table.specs.Records.{noMapping};
 ghost use Rattle.sound_records.specs.Scan as spec;
 use domains::domain_held;
@@ -35,7 +36,7 @@ fn placed_good<'a>(
     t: &'a [u64],
 ) -> bool
     requires { ⌜ (settings .guests ≤ maxGuests) × (0 < settings .mask) × (listed ≤ maxEndpoints) × (listed ≤ length (now owners)) × (live ≤ length (records (now t))) ⌝ }
-    ensures { λ b. ⌜ b ≡ (spec.scan (spec.ownGood settings) (spec.domainGood listed (now (owners .entry)) (now (attached .entry)) (now (domains .entry))) true noMapping (take live (records (now (t .entry)))) && spec.sharesKept settings (take live (records (now (t .entry))))) ⌝ }
+    ensures { λ b. ⌜ b ≡ (spec.scan (spec.ownGood settings) (spec.domainGood listed (now (owners .entry)) (now (attached .entry)) (now (domains .entry))) true noMapping (take live (records (now (t .entry)))) && sharesKept settings (take live (records (now (t .entry))))) ⌝ }
 {
     let guests = settings.guests;
     let mask = settings.mask;
@@ -80,7 +81,7 @@ pub fn records_good<'a>(
     domains: &'a [u32; MAX_ENDPOINTS],
     t: &'a [u64],
 ) -> bool
-    ensures { λ b. ⌜ b ≡ (every? (spec.placesTests settings listed live (now (t .entry))) && (spec.scan (spec.ownGood settings) (spec.domainGood listed (now (owners .entry)) (now (attached .entry)) (now (domains .entry))) true noMapping (take live (records (now (t .entry)))) && spec.sharesKept settings (take live (records (now (t .entry)))))) ⌝ }
+    ensures { λ b. ⌜ b ≡ (every? (spec.roomTests settings listed live (now (t .entry))) && (spec.scan (spec.ownGood settings) (spec.domainGood listed (now (owners .entry)) (now (attached .entry)) (now (domains .entry))) true noMapping (take live (records (now (t .entry)))) && sharesKept settings (take live (records (now (t .entry)))))) ⌝ }
 {
     if !((settings.guests <= MAX_GUESTS)
         & ((0 < settings.mask) & ((listed <= MAX_ENDPOINTS) & (live <= t.len() / RECORD_WORDS)))) {

@@ -3,7 +3,6 @@ use native.Mathlib.Omega.{arith}
 use borrow.Author.Tests.{lt-leb, le-leb}
 use mathlib.Core.Path.{sym, _∙_}
 use Rattle.rules.specs.Sizes.{maxEndpoints}
-use Rattle.rules.specs.State.{configOf}
 use Rattle.sound_logs.specs.Faults.{faultsAlone}
 use Rattle.sound_logs.proofs.NoFaults.{no-faults}
 use Rattle.sound_logs.proofs.faults_good.Statement.{statement}
@@ -17,7 +16,7 @@ returns-2 c =
     let t = c .before in
     let a = t .before .before .before .args in
     let d = faultsAlone (a .n) (a .endpoints .now) (a .owners .now) (a .logged .now) (a .reasons .now) (a .flags .now) (a .sources .now) (a .addresses .now) in
-    rw (c .zero-places .ensures, le-leb (a .n) maxEndpoints (omega arith)) (sym (no-faults (configOf d) d (sym (t .before .none-logged .ensures) ∙ t .if2 .taken)))
+    rw (c .zero-places .ensures, le-leb (a .n) maxEndpoints (omega arith)) (sym (no-faults d (sym (t .before .none-logged .ensures) ∙ t .if2 .taken)))
 
 places-good-requires : tie.Need-places-good-requires
 places-good-requires c κs = (omega arith, c .places-good-arg2 .given .0, c .before .places-good-arg .given .0)

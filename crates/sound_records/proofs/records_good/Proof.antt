@@ -6,19 +6,18 @@ use mathlib.Core.Bool.{Bool, true, false, _&&_, and-true}
 use mathlib.Core.List.{List}
 use lib.Dec.{leb, ltb}
 use lib.ListN.{length}
-use borrow.Author.Tests.{leb-true, ltb-true, not-true, not-false}
+use borrow.Author.Tests.{not-true, not-false}
 use Rattle.laws.specs.Lists.{every?}
-use Rattle.laws.proofs.Tests.{opened}
 use Rattle.rules.specs.declared.Settings.{Settings}
 use Rattle.rules.specs.Sizes.{maxGuests, maxEndpoints, recordWords}
-use Rattle.rules.specs.Table.{records}
 use Rattle.rules.proofs.Words.{length-records}
-use Rattle.sound_records.specs.Scan.{placesTests}
+use Rattle.sound_records.specs.Scan.{roomTests}
+use Rattle.sound_records.proofs.Room.{room-facts}
 use Rattle.sound_records.proofs.records_good.Statement.{statement}
 use Rattle.sound_records.proofs.records_good.Tie as tie
 
 -- the tests of the places, as the branch makes them
-tested : (s : Settings) (listed live : ℕ) (t : List ℕ) (b : Bool) → (leb (s .guests) maxGuests && (ltb 0 (s .mask) && (leb listed maxEndpoints && leb live (length t / recordWords)))) ≡ b → every? (placesTests s listed live t) ≡ b
+tested : (s : Settings) (listed live : ℕ) (t : List ℕ) (b : Bool) → (leb (s .guests) maxGuests && (ltb 0 (s .mask) && (leb listed maxEndpoints && leb live (length t / recordWords)))) ≡ b → every? (roomTests s listed live t) ≡ b
 tested s listed live t b h = rw (length-records t, and-true) h
 
 returns : tie.Need-returns
@@ -29,14 +28,8 @@ returns c =
 placed-good-requires : tie.Need-placed-good-requires
 placed-good-requires c κs =
     let a = c .before .before .before .before .before .args in
-    let p = opened (placesTests (a .settings) (a .listed) (a .live) (a .t .now)) (tested (a .settings) (a .listed) (a .live) (a .t .now) true (not-false _ (c .before .if1 .left))) in
-    let n = leb-true (a .listed) maxEndpoints (p .1 .1 .0) in (
-      leb-true (a .settings .guests) maxGuests (p .0),
-      ltb-true 0 (a .settings .mask) (p .1 .0),
-      n,
-      omega (arith, n, c .placed-good-arg .given .0),
-      leb-true (a .live) (length (records (a .t .now))) (p .1 .1 .1 .0),
-    )
+    let p = room-facts (a .settings) (a .listed) (a .live) (a .t .now) (tested (a .settings) (a .listed) (a .live) (a .t .now) true (not-false _ (c .before .if1 .left))) in
+    (p .guests, p .mask, p .endpoints, omega (arith, p .endpoints, c .placed-good-arg .given .0), p .records)
 
 returns-2 : tie.Need-returns-2
 returns-2 c =
