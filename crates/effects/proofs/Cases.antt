@@ -5,6 +5,7 @@ use Rattle.rules.specs.declared.Guest.{Guest}
 use Rattle.rules.specs.declared.Domain.{Domain}
 use Rattle.rules.specs.declared.Endpoint.{Endpoint}
 use Rattle.rules.specs.declared.Refusal.{Refusal}
+use Rattle.rules.specs.Requests.{DEVERR}
 use Rattle.rules.specs.State.{Device}
 use Rattle.rules.specs.Table.{keyOf, mapping}
 use Rattle.layouts.specs.declared.request.Request.{Request}
@@ -15,7 +16,7 @@ use Rattle.effects.specs.Flat.{Worked, worked, attachFlat, detachFlat, m
 use Rattle.effects.specs.Serve.{handled}
 
 module _ (d : Device) (g : Guest) (q : Request) where
-  pub handled-refused : (a : Refusal) → q ≡ Refused a → worked 0 d ≡ handled d g q
+  pub handled-refused : (a : Refusal) → q ≡ Refused a → worked DEVERR d ≡ handled d g q
   unfolding handled
   handled-refused a e = rw e
 

@@ -10,9 +10,9 @@ use denote.Enum.Declared.{tagOf}
 use types.Run.{OneOf, miss}
 use lib.Dec.{ltb, leb, eqb}
 use lib.ListN.{length, getD, take}
-use borrow.Author.Tests.{lt-ltb, le-ltb, le-leb, leb-true, eqb-true, not-true, not-false}
+use borrow.Author.Tests.{lt-ltb, le-ltb, le-leb, leb-true, eqb-true, eqb-false, not-true, not-false}
 use Rattle.laws.specs.Lists.{all?, firstFailing}
-use Rattle.laws.proofs.Tests.{nor, Clear, cleared}
+use Rattle.laws.proofs.Tests.{both-left, both-right, Clear, cleared}
 use Rattle.laws.proofs.Filters.{all-imp, found}
 use Rattle.rules.specs.declared.Guest.{Guest}
 use Rattle.rules.specs.declared.Endpoint.{Endpoint}
@@ -21,20 +21,21 @@ use Rattle.rules.specs.declared.Mapping.{Mapping}
 use Rattle.rules.specs.declared.Answer.{Answer}
 use Rattle.rules.specs.declared.Answer.the-variants.{Done, Served, Fetched, Refused}
 use Rattle.rules.specs.declared.Refusal.{Refusal}
-use Rattle.rules.specs.declared.Refusal.the-variants.{NoSuchGuest, Unsound}
+use Rattle.rules.specs.declared.Refusal.the-variants.{NoSuchGuest, Unsound, UnknownType}
 use Rattle.rules.specs.declared.Access.{Access}
 use Rattle.rules.specs.Sizes.{maxGuests, maxEndpoints, maxRecords, maxFaults, faultSize}
-use Rattle.rules.specs.Configuration.{windowFirst, windowLast, good}
+use Rattle.rules.specs.Configuration.{windowLast, good}
 use Rattle.rules.specs.Table.{records}
 use Rattle.rules.specs.State.{World, Device, configOf, read}
 use Rattle.rules.specs.Guests.{own, part, recordsOf}
-use Rattle.rules.specs.Requests.{ATTACH, UNMAP, requestRefusals, typeOf, writableLength, domainField, endpointField, attachReserved}
-use Rattle.rules.specs.Handlers.{outside, formSteps}
+use Rattle.rules.specs.Requests.{ATTACH, DETACH, MAP, UNMAP, requestRefusals, typeOf, writableLength, domainField, endpointField, attachReserved}
+use Rattle.rules.specs.Handlers.{formSteps}
 use Rattle.rules.specs.Access.{permits, findMapping}
 use Rattle.rules.specs.Sound.{guest, sound, recordGood}
 use Rattle.rules.specs.Device.{Job, request, reset, fetch, of-guest, access-by, Reply, lentFor, refusedWith, step}
-use Rattle.rules.proofs.Parts.{outside-high, record-form}
+use Rattle.rules.proofs.Parts.{record-form}
 use Rattle.rules.proofs.Records.{all-guests}
+use Rattle.rules.proofs.Chains.{formed}
 use Rattle.rules.proofs.Worlds.{Whole}
 use Rattle.rules.proofs.Accesses.{permits-covers}
 use Rattle.rules.proofs.Reading.{sound-good, sound-whole}
@@ -138,11 +139,9 @@ module _ (s : State) (ws : List ℕ) (h : sound (device s ws) ≡ true) (k : Sha
   -- every record's last address is one of 64 bits
   module _ (wide : (i : ℕ) → windowLast (s .settings) i ≤ 18446744073709551615) where
     form-lands : (n : ℕ) (r : Mapping) → Clear (formSteps (own (configOf s) (guest n)) r) → leb (r .phys + r .end - r .start) 18446744073709551615 ≡ true
-    unfolding formSteps own configOf
     form-lands n r f =
-        let a = windowFirst (s .settings) n in
-        let b = windowLast (s .settings) n in
-        le-leb (r .phys + r .end - r .start) 18446744073709551615 (omega (arith, outside-high a b (r .phys + r .end - r .start) (nor (outside a b (r .phys)) (outside a b (r .phys + r .end - r .start)) (f .1 .1 .1 .1 .0) .1), wide n))
+        let h : r .phys + r .end - r .start ≤ windowLast (s .settings) n = unfold own configOf in formed (own (configOf s) (guest n)) r f .phys-end-within .1 in
+        le-leb (r .phys + r .end - r .start) 18446744073709551615 (omega (arith, wide n))
 
     all-land : all? (λ r. leb (r .phys + r .end - r .start) 18446744073709551615) (read (device s ws) .records) ≡ true
     all-land =
@@ -160,24 +159,30 @@ module _ (s : State) (ws : List ℕ) (h : sound (device s ws) ≡ true) (k : Sha
 abbrev pub handled-tags : List ℕ
 handled-tags = 1 ∷ 2 ∷ 3 ∷ 4 ∷ []
 
-asked-tag : (r : List ℕ) (a : Refusal) → asked r ≡ Q.Refused a → ⊥
+-- a request with no failing step is of a known type
+known-type : (r : List ℕ) (n : ℕ) → firstFailing (requestRefusals r n) ≡ none → (leb ATTACH (typeOf r) && leb (typeOf r) UNMAP) ≡ true
+known-type r n e = not-false (leb ATTACH (typeOf r) && leb (typeOf r) UNMAP) (cleared (requestRefusals r n) e .1 .0)
+
+asked-tag : (r : List ℕ) (a : Refusal) → (leb ATTACH (typeOf r) && leb (typeOf r) UNMAP) ≡ true → asked r ≡ Q.Refused a → ⊥
 unfolding asked
-asked-tag r a e = go (eqb (typeOf r) 1) (eqb (typeOf r) 2) (eqb (typeOf r) 3) e
+asked-tag r a k = go (eqb (typeOf r) ATTACH) refl (eqb (typeOf r) DETACH) refl (eqb (typeOf r) MAP) refl (eqb (typeOf r) UNMAP) refl
   where
-    go : (t u v : Bool) → cond t (Attach (domainField r) (endpointField r) (attachReserved r)) (cond u (Detach (domainField r) (endpointField r) (attachReserved r)) (cond v (Map (domainField r) (mapFields r)) (Unmap (domainField r) (unmapFields r)))) ≡ Q.Refused a → ⊥
-    go true u v x = let z : _≡_ {A = ℕ} 0 1 = cc in omega arith
-    go false true v x = let z : _≡_ {A = ℕ} 0 1 = cc in omega arith
-    go false false true x = let z : _≡_ {A = ℕ} 0 1 = cc in omega arith
-    go false false false x = let z : _≡_ {A = ℕ} 0 1 = cc in omega arith
+    go : (t : Bool) → eqb (typeOf r) ATTACH ≡ t → (u : Bool) → eqb (typeOf r) DETACH ≡ u → (v : Bool) → eqb (typeOf r) MAP ≡ v → (w : Bool) → eqb (typeOf r) UNMAP ≡ w
+        → cond t (Attach (domainField r) (endpointField r) (attachReserved r)) (cond u (Detach (domainField r) (endpointField r) (attachReserved r)) (cond v (Map (domainField r) (mapFields r)) (cond w (Unmap (domainField r) (unmapFields r)) (Q.Refused UnknownType)))) ≡ Q.Refused a → ⊥
+    go true et u eu v ev w ew x = let z : _≡_ {A = ℕ} 0 1 = cc in omega arith
+    go false et true eu v ev w ew x = let z : _≡_ {A = ℕ} 0 1 = cc in omega arith
+    go false et false eu true ev w ew x = let z : _≡_ {A = ℕ} 0 1 = cc in omega arith
+    go false et false eu false ev true ew x = let z : _≡_ {A = ℕ} 0 1 = cc in omega arith
+    go false et false eu false ev false ew x = omega (arith, leb-true ATTACH (typeOf r) (both-left (leb ATTACH (typeOf r)) _ k), leb-true (typeOf r) UNMAP (both-right (leb ATTACH (typeOf r)) _ k), eqb-false (typeOf r) ATTACH et, eqb-false (typeOf r) DETACH eu, eqb-false (typeOf r) MAP ev, eqb-false (typeOf r) UNMAP ew)
 
 -- a request parsed as refused has a failing step, and one that is not has none
 pub parsed-refused : (q : Request) (r : List ℕ) (n : ℕ) (a : Refusal) → q ≡ parsed r n → q ≡ Q.Refused a → firstFailing (requestRefusals r n) ≡ some a
 unfolding parsed
-parsed-refused q r n a e f = go (firstFailing (requestRefusals r n)) (sym e ∙ f)
+parsed-refused q r n a e f = go (firstFailing (requestRefusals r n)) refl (sym e ∙ f)
   where
-    go : (m : Option Refusal) → unless m (asked r) ≡ Q.Refused a → m ≡ some a
-    go none x = unfold unless in absurd (asked-tag r a x)
-    go (some b) x = unfold unless in cc
+    go : (m : Option Refusal) → firstFailing (requestRefusals r n) ≡ m → unless m (asked r) ≡ Q.Refused a → m ≡ some a
+    go none y x = unfold unless in absurd (asked-tag r a (known-type r n y) x)
+    go (some b) y x = unfold unless in cc
 
 pub parsed-handled : (q : Request) (r : List ℕ) (n : ℕ) → q ≡ parsed r n → OneOf handled-tags (tagOf request-type.the-type q) → (firstFailing (requestRefusals r n) ≡ none) × (q ≡ asked r)
 unfolding parsed
@@ -190,9 +195,7 @@ parsed-handled q r n e h = go (firstFailing (requestRefusals r n)) refl e
 -- a request with no failing step has a writable part of four bytes
 pub four-bytes : (r : List ℕ) (n : ℕ) → firstFailing (requestRefusals r n) ≡ none → n ≡ 4
 four-bytes r n e =
-    let c = cleared (requestRefusals r n) e in
-    let known : (leb ATTACH (typeOf r) && leb (typeOf r) UNMAP) ≡ true = not-false (leb ATTACH (typeOf r) && leb (typeOf r) UNMAP) (c .1 .0) in
-    eqb-true n (writableLength (typeOf r)) (not-false _ (c .1 .1 .1 .0)) ∙ rw known
+    eqb-true n (writableLength (typeOf r)) (not-false _ (cleared (requestRefusals r n) e .1 .1 .1 .0)) ∙ rw (known-type r n e)
 
 module _ (s : State) (ws : List ℕ) (g : Guest) (ready : (sound (device s ws) ≡ true) × Shaped s × (ltb (g .0) (s .settings .guests) ≡ true)) (q : Request) (r b : List ℕ) (e : q ≡ parsed r (length b)) where
   pub serve-refused : (a : Refusal) → q ≡ Q.Refused a → (record { answer = Refused a; buffer = b }, device s ws) ≡ step (device s ws) (of-guest g (request r b))

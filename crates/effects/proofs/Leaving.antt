@@ -10,7 +10,7 @@ use lib.ListN.{length, getD, set, length-set}
 use lib.Seq.{set-getD, set-set}
 use borrow.Author.Tests.{ltb-true, leb-true, eqb-true, eq-eqb, le-leb}
 use Rattle.laws.specs.Lists.{all?, keep, pickBy, weaveBy}
-use Rattle.laws.proofs.Tests.{both, both-left, both-right, true-false, same-test, nor, Clear}
+use Rattle.laws.proofs.Tests.{both, both-left, both-right, true-false, same-test, Clear}
 use Rattle.laws.proofs.Filters.{all-imp}
 use Rattle.laws.proofs.Tables.{getD-tab}
 use Rattle.laws.proofs.Owners.{weave-pick, pick-weave}
@@ -19,25 +19,26 @@ use Rattle.rules.specs.declared.Endpoint.{Endpoint}
 use Rattle.rules.specs.declared.Domain.{Domain}
 use Rattle.rules.specs.declared.State.{State}
 use Rattle.rules.specs.declared.Mapping.{Mapping}
-use Rattle.rules.specs.Sizes.{domainSpan, maxEndpoints}
+use Rattle.rules.specs.Sizes.{domainSpan, maxEndpoints, topAddress}
 use Rattle.rules.specs.Configuration.{Config}
 use Rattle.rules.specs.Table.{keyOf, guestOf}
 use Rattle.rules.specs.State.{Attachment, World, Device, noLog, flagOf, numberOf, stateOf, write}
 use Rattle.rules.specs.Guests.{Own, Part, own, part, replace, recordsOf, withRecordsOf}
-use Rattle.rules.specs.Handlers.{outside, isIn, exists, listed, attachmentOf, attachedAs, ofKey, without, leave, enter, attached, formSteps}
+use Rattle.rules.specs.Handlers.{isIn, exists, listed, attachmentOf, attachedAs, ofKey, without, leave, enter, attached, formSteps}
 use Rattle.rules.specs.Sound.{guest, recordGood}
 use Rattle.rules.specs.Device.{ownerOf, is}
 use Rattle.rules.proofs.Records.{mine, key-guest, all-guests}
 use Rattle.rules.proofs.Attachments.{length-attachedAs}
 use Rattle.rules.proofs.Groups.{Good, good-facts}
-use Rattle.rules.proofs.Parts.{record-form, outside-high}
+use Rattle.rules.proofs.Parts.{record-form}
 use Rattle.rules.proofs.Worlds.{Whole}
+use Rattle.rules.proofs.Chains.{formed}
 use Rattle.rules.proofs.Shares.{fits}
 use Rattle.rules.proofs.Writing.{kept}
 use Rattle.removal.specs.Removed.{within}
 use Rattle.attachments.specs.Changes.{attachedAt}
 use Rattle.attachments.specs.Search.{indexOf}
-use Rattle.effects.specs.Flat.{device, topAddress, isAttached, existsFlat, removed, left, entered, moved}
+use Rattle.effects.specs.Flat.{device, isAttached, existsFlat, removed, left, entered, moved}
 use Rattle.effects.proofs.Flat.{with-same, with-kept}
 use Rattle.effects.proofs.Places.{owner-at, attachment-at, attached-at}
 use Rattle.effects.proofs.Written.{withAtts, withRecs, attached-written, exists-written, removed-written}
@@ -81,11 +82,9 @@ module _ (c : Config) (w : World) (h : Whole c w) where
 
   -- by the guest's facts
   form-end : (g : Guest) (r : Mapping) → Clear (formSteps (own c g) r) → leb (r .end) topAddress ≡ true
-  unfolding formSteps own
   form-end g r f =
-      let a = c .settings .input .start in
-      let b = c .settings .input .end in
-      le-leb (r .end) topAddress (omega (arith, outside-high a b (r .end) (nor (outside a b (r .start)) (outside a b (r .end)) (f .1 .1 .1 .0) .1), top))
+      let h : r .end ≤ c .settings .input .end = unfold own in formed (own c g) r f .end-within .1 in
+      le-leb (r .end) topAddress (omega (arith, top))
 
   pub ends : all? (λ r. leb (r .end) topAddress) (w .records) ≡ true
   ends = all-guests (c .settings .guests) (λ n r. leb (r .end) topAddress) (w .records) (h .guests) (λ n l. unfold part in all-imp (recordGood (own c (guest n)) (part c (guest n) w .attachments)) (λ r. leb (r .end) topAddress) (recordsOf (guest n) (w .records)) (λ r k. form-end (guest n) r (record-form (own c (guest n)) (part c (guest n) w .attachments) r k)) (h .parts (guest n) l .records))

@@ -1,84 +1,45 @@
--- What the functions of MAP and UNMAP show at their returns: windows without a sum that could wrap, and the handlers as laws on states
--- and words.
-use Prim.Native.Nat.{ℕ, _+_, _-_, _%_, _<_, _≤_}
-use mathlib.Core.Path.{_≡_, refl, sym, ap, _∙_}
-use mathlib.Core.Bool.{Bool, true, false, not, _&&_, _||_}
-use mathlib.Core.List.{List, [], _∷_}
+-- What the functions of MAP and UNMAP show at their returns, as laws on states and words.
+use Prim.Native.Nat.{ℕ, _+_}
+use mathlib.Core.Path.{_≡_, refl, sym, _∙_}
+use mathlib.Core.Bool.{Bool, true, false, not, _&&_}
+use mathlib.Core.List.{List}
 use native.Mathlib.Numerals.{add-one}
-use native.Mathlib.Omega.{arith}
 use lib.Dec.{leb, ltb, eqb}
 use lib.ListN.{length, take}
-use borrow.Author.Tests.{leb-true, leb-false, ne-eqb, lt-ltb, le-ltb, le-leb, lt-leb}
+use borrow.Author.Tests.{ne-eqb}
 use Rattle.laws.specs.Lists.{any?}
-use Rattle.laws.proofs.Tests.{or-left, or-right, or-none}
-use Rattle.rules.specs.Sizes.{maxGuests}
+use Rattle.rules.specs.Sizes.{maxGuests, topAddress}
 use Rattle.rules.specs.declared.Guest.{Guest}
 use Rattle.rules.specs.declared.Domain.{Domain}
-use Rattle.rules.specs.declared.Settings.{Settings}
 use Rattle.rules.specs.declared.State.{State}
 use Rattle.rules.specs.declared.Mapping.{Mapping}
-use Rattle.rules.specs.Configuration.{share, windowFirst, windowLast}
+use Rattle.rules.specs.Configuration.{share}
 use Rattle.rules.specs.Table.{keyOf, records, overlap}
-use Rattle.rules.specs.Guests.{recordsOf}
-use Rattle.rules.specs.Requests.{OK, INVAL, RANGE, NOENT, FAULT, NOMEM}
-use Rattle.rules.specs.Handlers.{outside, granularity, straddles}
+use Rattle.rules.specs.State.{configOf}
+use Rattle.rules.specs.Guests.{own, recordsOf}
+use Rattle.rules.specs.Requests.{DEVERR}
+use Rattle.rules.specs.Handlers.{statusOf, formSteps, mapChain, straddles, unmapChain}
 use Rattle.insertion.specs.Inserted.{insertedWords}
 use Rattle.state.specs.Fields.{withLive}
-use Rattle.effects.specs.Flat.{worked, device, existsFlat, removed, inserted, firstOf, formStatus, mapStatus, mapFlat, mapPlaced, unmapStatus, unmapFlat, topAddress}
-
--- WINDOWS
-
--- what lies in the window whole has neither end outside it
-window-out : (first last p a b : ℕ) → a ≤ b → not (leb a b && (leb first p && leb (p + b - a) last)) ≡ (outside first last p || outside first last (p + b - a))
-unfolding outside
-window-out first last p a b h = rw (le-leb a b h) (go (leb first p) (leb (p + b - a) last) refl refl)
-  where
-    go : (x y : Bool) → leb first p ≡ x → leb (p + b - a) last ≡ y → not (x && y) ≡ ((ltb p first || ltb last p) || (ltb (p + b - a) first || ltb last (p + b - a)))
-    go true true e f =
-        let low : first ≤ p = leb-true first p e in
-        let high : p + b - a ≤ last = leb-true (p + b - a) last f in
-        sym (or-none _ _ (or-none _ _ (le-ltb p first low) (le-ltb last p (omega arith))) (or-none _ _ (le-ltb (p + b - a) first (omega arith)) (le-ltb last (p + b - a) high)))
-    go true false e f = sym (or-right (ltb p first || ltb last p) _ (or-right (ltb (p + b - a) first) _ (lt-ltb last (p + b - a) (leb-false (p + b - a) last f))))
-    go false y e f = sym (or-left (ltb p first || ltb last p) _ (or-left (ltb p first) _ (lt-ltb p first (leb-false first p e))))
-
--- STATUSES
-
--- not both, and one or the other not
-neither : (a b : Bool) → not (a && b) ≡ (not a || not b)
-neither true b = refl
-neither false b = refl
-
-module _ (s : Settings) (g : Guest) (r : Mapping) where
-  pub form-flags : 3 < r .flags → INVAL ≡ formStatus s g r
-  unfolding formStatus
-  form-flags h = rw (lt-ltb 3 (r .flags) h)
-
-  pub form-order : r .flags ≤ 3 → r .end ≤ r .start → RANGE ≡ formStatus s g r
-  unfolding formStatus
-  form-order f h = rw (le-ltb 3 (r .flags) f, le-leb (r .end) (r .start) h)
-
-  pub form-rest : (x : ℕ) (a i j w : Bool) → r .flags ≤ 3 → r .start < r .end → a ≡ (eqb (r .start % granularity (s .mask)) 0 && eqb ((r .end + 1) % granularity (s .mask)) 0)
-      → i ≡ outside (s .input .start) (s .input .end) (r .start) → j ≡ outside (s .input .start) (s .input .end) (r .end)
-      → w ≡ (leb (r .start) (r .end) && (leb (windowFirst s (g .0)) (r .phys) && leb (r .phys + r .end - r .start) (windowLast s (g .0)))) → x ≡ firstOf ((not a, RANGE) ∷ (i || j, RANGE) ∷ (not w, FAULT) ∷ []) → x ≡ formStatus s g r
-  unfolding formStatus
-  form-rest x a i j w f h ea ei ej ew e =
-      e
-      ∙ rw (le-ltb 3 (r .flags) f, lt-leb (r .end) (r .start) h, ea, ei, ej, ew, window-out (windowFirst s (g .0)) (windowLast s (g .0)) (r .phys) (r .start) (r .end) (omega arith), neither (eqb (r .start % granularity (s .mask)) 0) (eqb ((r .end + 1) % granularity (s .mask)) 0))
+use Rattle.effects.specs.Flat.{worked, device, existsFlat, removed, inserted, mapStatus, mapFlat, mapPlaced, unmapStatus, unmapFlat}
+use Rattle.effects.proofs.Statuses.{told, map-told}
 
 module _ (s : State) (ws : List ℕ) (g : Guest) (d : Domain) where
-  pub map-steps : (r : Mapping) (x f n m : ℕ) (b o : Bool) → b ≡ existsFlat s g d → f ≡ formStatus (s .settings) g r → o ≡ any? (overlap r) (take (s .live) (records ws)) → n ≡ length (recordsOf g (take (s .live) (records ws)))
-      → m ≡ share (s .settings) (g .0) → x ≡ firstOf ((not b, NOENT) ∷ (not (eqb f OK), f) ∷ (o, INVAL) ∷ (leb m n, NOMEM) ∷ []) → x ≡ mapStatus (device s ws) g d r
+  -- STATUSES
+
+  pub map-steps : (r : Mapping) (x f n m : ℕ) (b o : Bool) → b ≡ existsFlat s g d → f ≡ statusOf (formSteps (own (configOf s) g) r) → o ≡ any? (overlap r) (take (s .live) (records ws)) → n ≡ length (recordsOf g (take (s .live) (records ws)))
+      → m ≡ share (s .settings) (g .0) → x ≡ statusOf (mapChain (not b) (told f) o (leb m n)) → x ≡ mapStatus (device s ws) g d r
   unfolding mapStatus
-  map-steps r x f n m b o eb ef eo en em e = e ∙ rw (eb, ef, eo, en, em)
+  map-steps r x f n m b o eb ef eo en em e = e ∙ rw (eb, ef, eo, en, em) (map-told (not (existsFlat s g d)) (formSteps (own (configOf s) g) r) _ _ (unfold formSteps in refl))
 
   pub unmap-steps : (a c z x k : ℕ) (b o : Bool) → b ≡ existsFlat s g d → k ≡ keyOf g d → o ≡ any? (straddles k a c) (take (s .live) (records ws))
-      → x ≡ firstOf ((not b, NOENT) ∷ (not (eqb z 0), INVAL) ∷ (ltb c a, RANGE) ∷ (o, RANGE) ∷ []) → x ≡ unmapStatus (device s ws) g d a c z
+      → x ≡ statusOf (unmapChain (not b) (not (eqb z 0)) (ltb c a) o) → x ≡ unmapStatus (device s ws) g d a c z
   unfolding unmapStatus
   unmap-steps a c z x k b o eb ek eo e = e ∙ rw (eb, eo, ek)
 
   -- HANDLERS
 
-  pub map-unplaced : (r : Mapping) → (ltb (g .0) maxGuests && ltb (s .live) topAddress) ≡ false → worked 0 (device s ws) ≡ mapPlaced (device s ws) g d r
+  pub map-unplaced : (r : Mapping) → (ltb (g .0) maxGuests && ltb (s .live) topAddress) ≡ false → worked DEVERR (device s ws) ≡ mapPlaced (device s ws) g d r
   unfolding mapPlaced
   map-unplaced r h = rw h
 

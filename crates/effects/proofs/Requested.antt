@@ -2,14 +2,14 @@
 use Prim.Native.Nat.{ℕ, _+_, _-_, _*_, _<_}
 use mathlib.Core.Path.{_≡_, refl, sym, ap, subst, _∙_}
 use mathlib.Core.Bool.{Bool, true, false, cond, not, _&&_, _||_}
-use mathlib.Core.List.{List, [], _∷_, _++_}
+use mathlib.Core.List.{List, [], _∷_}
 use mathlib.Core.Option.{Option, some, none}
 use native.Mathlib.Omega.{arith}
 use lib.Dec.{leb, ltb, eqb}
 use lib.ListN.{length, getD, set, replicate}
-use borrow.Author.Tests.{ltb-true, leb-true, leb-false, eqb-true, eq-eqb, le-leb, not-true, not-false}
+use borrow.Author.Tests.{ltb-true, leb-true, eqb-true, eq-eqb, le-leb, not-true}
 use Rattle.laws.specs.Lists.{all?, any?, keep, pairwise, weaveBy}
-use Rattle.laws.proofs.Tests.{both, both-left, both-right, true-false, same-test, Clear, clear-left, clear-right}
+use Rattle.laws.proofs.Tests.{both, both-left, both-right, true-false, same-test, Clear}
 use Rattle.laws.proofs.Filters.{keep-same}
 use Rattle.laws.proofs.Tables.{getD-tab}
 use Rattle.rules.specs.declared.Guest.{Guest}
@@ -19,20 +19,20 @@ use Rattle.rules.specs.declared.Mapping.{Mapping}
 use Rattle.rules.specs.declared.Settings.{Settings}
 use Rattle.rules.specs.declared.State.{State}
 use Rattle.rules.specs.declared.Fault.{Fault}
-use Rattle.rules.specs.Sizes.{domainSpan, maxEndpoints, maxRecords}
+use Rattle.rules.specs.Sizes.{domainSpan, maxEndpoints, maxRecords, topAddress}
 use Rattle.rules.specs.Configuration.{Config, share}
 use Rattle.rules.specs.Table.{keyOf, guestOf, overlap, insertMapping, records}
 use Rattle.rules.specs.State.{Attachment, Log, World, Device, noLog, configOf, read, flagOf, numberOf, stateOf, write}
 use Rattle.rules.specs.Guests.{Part, own, part, replace, recordsOf, withRecordsOf, withRecords, withLog}
-use Rattle.rules.specs.Requests.{OK, INVAL, RANGE, NOENT, NOMEM}
-use Rattle.rules.specs.Handlers.{outside, isIn, exists, listed, attachmentOf, ofKey, without, leave, enter, moveFrom, attached, attachSteps, handleAttach, detachSteps, handleDetach, formSteps, recordSteps, mapSteps, handleMap, inside, straddles, unmapSteps, handleUnmap}
+use Rattle.rules.specs.Handlers.{outside, isIn, exists, listed, attachmentOf, ofKey, without, leave, enter, moveFrom, attached, attachSteps, handleAttach, detachSteps, handleDetach, formSteps, mapSteps, handleMap, inside, straddles, unmapSteps, handleUnmap, statusOf, attachChain, detachChain, mapChain, unmapChain}
 use Rattle.rules.specs.Access.{afterReset, logged, fetchedFrom}
 use Rattle.rules.specs.Sound.{guest, sound, inRange}
 use Rattle.rules.specs.Device.{ownerOf, is}
 use Rattle.rules.proofs.Records.{mine}
 use Rattle.rules.proofs.Groups.{Good, good-facts, Facts}
-use Rattle.rules.proofs.Parts.{outside-high, in-range}
+use Rattle.rules.proofs.Parts.{in-range}
 use Rattle.rules.proofs.Worlds.{Whole, same-guest}
+use Rattle.rules.proofs.Chains.{outside-high, attaches, detaches, maps, unmap-there}
 use Rattle.rules.proofs.Words.{records-tableOf}
 use Rattle.rules.proofs.Shares.{fits}
 use Rattle.rules.proofs.Writing.{kept, config-back, read-write}
@@ -43,13 +43,13 @@ use Rattle.logging.specs.Changes.{faultLogged}
 use Rattle.dropping.specs.Changes.{faultsDropped}
 use Rattle.resets.specs.Changes.{guestCleared}
 use Rattle.attachments.specs.Search.{indexOf}
-use Rattle.effects.specs.Flat.{device, worked, topAddress, placeOfEndpoint, ownedAt, isAttached, existsFlat, liveRecords, removed, inserted, left, entered, moved, firstOf, settled, attachStatus, attachFlat, detachStatus, detachFlat, formStatus, mapStatus, mapFlat, unmapStatus, unmapFlat, resetFlat}
+use Rattle.effects.specs.Flat.{device, worked, placeOfEndpoint, ownedAt, isAttached, existsFlat, liveRecords, removed, inserted, left, entered, moved, settled, attachStatus, attachFlat, detachStatus, detachFlat, mapStatus, mapFlat, unmapStatus, unmapFlat, resetFlat}
 use Rattle.effects.proofs.Flat.{with-kept, with-inserted, any-of}
 use Rattle.effects.proofs.Places.{owner-at, listed-owned}
 use Rattle.effects.proofs.Written.{withRecs, withLogs, exists-written, removed-written, inserted-written}
 use Rattle.effects.proofs.Leaving.{keep-agree, ends, attachments-same, records-same, replace-same, replace-records, left-written, entered-written, moved-on, attachment-here, flag-here, number-here, in-domain, of-key-mine}
 use Rattle.effects.proofs.Logs.{logged-written, dropped-written, cleared-written}
-use Rattle.effects.proofs.Statuses.{first-append, settled-written}
+use Rattle.effects.proofs.Statuses.{settled-written}
 
 attachment-passes : (q : Attachment → Bool) (e : Endpoint) (es : List ℕ) (l : List Attachment) → q none ≡ true → all? q l ≡ true → q (attachmentOf e es l) ≡ true
 attachment-passes q e [] l z h = z
@@ -71,6 +71,10 @@ module _ (c : Config) (k : kept c ≡ c) (w : World) (h : Whole c w) (g : Guest)
   pub settings-is : write c w .state .settings ≡ c .settings
   unfolding write stateOf kept
   settings-is = ap (λ (x : Config). x .settings) k
+
+  pub config-is : configOf (write c w .state) ≡ c
+  unfolding write
+  config-is = config-back c w good-c ∙ k
 
   pub place-is : (e : Endpoint) → placeOfEndpoint (write c w .state) e ≡ indexOf (e .0) (c .endpoints)
   unfolding write configOf kept
@@ -126,11 +130,11 @@ module _ (c : Config) (k : kept c ≡ c) (w : World) (h : Whole c w) (g : Guest)
       go none x = unfold isIn moveFrom in entered-written c k w h g m e owner dom
       go (some was) x = unfold isIn moveFrom in other was x (eqb (was .0) (dom .0))
 
-  attach-status : (dom : Domain) (e : Endpoint) (z : ℕ) → attachStatus (write c w .state) g dom (placeOfEndpoint (write c w .state) e) z ≡ firstOf (attachSteps (own c g) dom e z)
+  attach-status : (dom : Domain) (e : Endpoint) (z : ℕ) → attachStatus (write c w .state) g dom (placeOfEndpoint (write c w .state) e) z ≡ statusOf (attachSteps (own c g) dom e z)
   unfolding attachStatus
   attach-status dom e z =
-      ap (λ b. firstOf ((not (eqb z 0), INVAL) ∷ (not b, NOENT) ∷ (outside (write c w .state .settings .domains .start) (write c w .state .settings .domains .end) (dom .0), RANGE) ∷ [])) (owned-is e)
-      ∙ ap (λ (s : Settings). firstOf ((not (eqb z 0), INVAL) ∷ (not (listed e (own c g .endpoints)), NOENT) ∷ (outside (s .domains .start) (s .domains .end) (dom .0), RANGE) ∷ [])) settings-is
+      ap (λ b. statusOf (attachChain (not (eqb z 0)) (not b) (outside (write c w .state .settings .domains .start) (write c w .state .settings .domains .end) (dom .0)))) (owned-is e)
+      ∙ ap (λ (s : Settings). statusOf (attachChain (not (eqb z 0)) (not (listed e (own c g .endpoints))) (outside (s .domains .start) (s .domains .end) (dom .0)))) settings-is
       ∙ unfold own in refl
 
   pub attach-written : (dom : Domain) (e : Endpoint) (z : ℕ) → attachFlat (write c w) g dom e z ≡ worked (handleAttach (own c g) (part c g w) dom e z .0) (write c (replace c g (handleAttach (own c g) (part c g w) dom e z .1) w))
@@ -138,22 +142,22 @@ module _ (c : Config) (k : kept c ≡ c) (w : World) (h : Whole c w) (g : Guest)
   attach-written dom e z =
       ap (λ n. settled n (write c w) (moved (write c w) g (placeOfEndpoint (write c w .state) e) dom)) (attach-status dom e z)
       ∙ settled-written c w g (attachSteps (own c g) dom e z) (write c w) (moved (write c w) g (placeOfEndpoint (write c w .state) e) dom) (part c g w) (attached (own c g) e dom (part c g w)) refl same-world
-      (λ y. ap (λ n. moved (write c w) g n dom) (place-is e) ∙ moved-written e dom (owner-of e (not-false _ (y .1 .0))))
+      (λ y. ap (λ n. moved (write c w) g n dom) (place-is e) ∙ moved-written e dom (owner-of e (attaches (own c g) dom e z y .owned)))
 
   -- DETACH
 
-  detach-status : (dom : Domain) (e : Endpoint) (z : ℕ) → detachStatus (write c w .state) g dom (placeOfEndpoint (write c w .state) e) z ≡ firstOf (detachSteps (own c g) (part c g w) dom e z)
+  detach-status : (dom : Domain) (e : Endpoint) (z : ℕ) → detachStatus (write c w .state) g dom (placeOfEndpoint (write c w .state) e) z ≡ statusOf (detachSteps (own c g) (part c g w) dom e z)
   unfolding detachStatus
   detach-status dom e z =
-      ap (λ b. firstOf ((not (eqb z 0), INVAL) ∷ (not b, NOENT) ∷ (not there, INVAL) ∷ [])) (owned-is e)
+      ap (λ b. statusOf (detachChain (not (eqb z 0)) (not b) (not there))) (owned-is e)
       ∙ go (listed e (own c g .endpoints)) refl
     where
       there : Bool
       there = isAttached (write c w .state) (placeOfEndpoint (write c w .state) e) && eqb (getD (write c w .state .domains) (placeOfEndpoint (write c w .state) e) 0) (dom .0)
 
-      go : (b : Bool) → listed e (own c g .endpoints) ≡ b → firstOf ((not (eqb z 0), INVAL) ∷ (not b, NOENT) ∷ (not there, INVAL) ∷ []) ≡ firstOf ((not (eqb z 0), INVAL) ∷ (not b, NOENT) ∷ (not (isIn dom (attachmentOf e (own c g .endpoints) (part c g w .attachments))), INVAL) ∷ [])
+      go : (b : Bool) → listed e (own c g .endpoints) ≡ b → statusOf (detachChain (not (eqb z 0)) (not b) (not there)) ≡ statusOf (detachChain (not (eqb z 0)) (not b) (not (isIn dom (attachmentOf e (own c g .endpoints) (part c g w .attachments)))))
       go true x =
-          ap (λ b. firstOf ((not (eqb z 0), INVAL) ∷ (false, NOENT) ∷ (not b, INVAL) ∷ []))
+          ap (λ b. statusOf (detachChain (not (eqb z 0)) false (not b)))
           (ap (λ n. isAttached (write c w .state) n && eqb (getD (write c w .state .domains) n 0) (dom .0)) (place-is e) ∙ in-domain c k w h g m e (owner-of e x) dom)
       go false x = refl
 
@@ -162,7 +166,9 @@ module _ (c : Config) (k : kept c ≡ c) (w : World) (h : Whole c w) (g : Guest)
   detach-written dom e z =
       ap (λ n. settled n (write c w) (left (write c w) g (placeOfEndpoint (write c w .state) e) dom)) (detach-status dom e z)
       ∙ settled-written c w g (detachSteps (own c g) (part c g w) dom e z) (write c w) (left (write c w) g (placeOfEndpoint (write c w .state) e) dom) (part c g w) (leave (own c g) e dom (part c g w)) refl same-world
-      (λ y. ap (λ n. left (write c w) g n dom) (place-is e) ∙ left-written c k w h g m e (owner-of e (not-false _ (y .1 .0))) dom (in-here e dom (not-false _ (y .1 .1 .0))))
+      (λ y.
+      let s = detaches (own c g) (part c g w) dom e z y in
+      ap (λ n. left (write c w) g n dom) (place-is e) ∙ left-written c k w h g m e (owner-of e (s .owned)) dom (in-here e dom (s .here)))
     where
       in-here : (e : Endpoint) (dom : Domain) → isIn dom (attachmentOf e (own c g .endpoints) (part c g w .attachments)) ≡ true → dom .0 < domainSpan
       in-here e dom x = go (attachmentOf e (own c g .endpoints) (part c g w .attachments)) refl x
@@ -182,9 +188,6 @@ module _ (c : Config) (k : kept c ≡ c) (w : World) (h : Whole c w) (g : Guest)
   existing-small : (dom : Domain) → exists dom (part c g w .attachments) ≡ true → dom .0 < domainSpan
   existing-small dom x = omega (arith, outside-high (own c g .domains .start) (own c g .domains .end) (dom .0) (in-range (own c g) dom (part c g w .attachments) x (facts .attachments)), facts .narrow)
 
-  form-is : (r : Mapping) → formStatus (write c w .state .settings) g r ≡ firstOf (formSteps (own c g) r)
-  form-is r = ap (λ (s : Settings). formStatus s g r) settings-is ∙ unfold formStatus formSteps own in refl
-
   overlap-is : (dom : Domain) (r : Mapping) → dom .0 < domainSpan → r .key ≡ keyOf g dom → any? (overlap r) (liveRecords (write c w)) ≡ any? (overlap r) (part c g w .records)
   overlap-is dom r s e = ap (λ (l : List Mapping). any? (overlap r) l) live-is ∙ unfold part in sym (any-of g (overlap r) (w .records) (λ x y. same x y))
     where
@@ -194,28 +197,24 @@ module _ (c : Config) (k : kept c ≡ c) (w : World) (h : Whole c w) (g : Guest)
   held-is : leb (share (write c w .state .settings) (g .0)) (length (recordsOf g (liveRecords (write c w)))) ≡ leb (own c g .share) (length (part c g w .records))
   held-is = ap (λ (s : Settings). leb (share s (g .0)) (length (recordsOf g (liveRecords (write c w))))) settings-is ∙ ap (λ (l : List Mapping). leb (share (c .settings) (g .0)) (length (recordsOf g l))) live-is ∙ unfold own part in refl
 
-  map-status : (dom : Domain) (r : Mapping) → r .key ≡ keyOf g dom → mapStatus (write c w) g dom r ≡ firstOf (mapSteps (own c g) (part c g w) dom r)
+  map-status : (dom : Domain) (r : Mapping) → r .key ≡ keyOf g dom → mapStatus (write c w) g dom r ≡ statusOf (mapSteps (own c g) (part c g w) dom r)
   unfolding mapStatus
   map-status dom r e =
-      ap (λ b. cond (not b) NOENT rest) (exists-is dom) ∙ go (exists dom (part c g w .attachments)) refl
+      ap (λ (x : Config). statusOf (mapChain (not (existsFlat (write c w .state) g dom)) (formSteps (own x g) r) meets full)) config-is
+      ∙ ap (λ b. statusOf (mapChain (not b) (formSteps (own c g) r) meets full)) (exists-is dom)
+      ∙ go (exists dom (part c g w .attachments)) refl
     where
-      rest : ℕ
-      rest = cond (not (eqb (formStatus (write c w .state .settings) g r) OK)) (formStatus (write c w .state .settings) g r) (cond (any? (overlap r) (liveRecords (write c w))) INVAL (cond (leb (share (write c w .state .settings) (g .0)) (length (recordsOf g (liveRecords (write c w))))) NOMEM OK))
+      meets : Bool
+      meets = any? (overlap r) (liveRecords (write c w))
 
-      late : ℕ
-      late = firstOf ((any? (overlap r) (part c g w .records), INVAL) ∷ (leb (own c g .share) (length (part c g w .records)), NOMEM) ∷ [])
+      full : Bool
+      full = leb (share (write c w .state .settings) (g .0)) (length (recordsOf g (liveRecords (write c w))))
 
-      go : (b : Bool) → exists dom (part c g w .attachments) ≡ b → cond (not b) NOENT rest ≡ cond (not b) NOENT (firstOf (formSteps (own c g) r ++ ((any? (overlap r) (part c g w .records), INVAL) ∷ (leb (own c g .share) (length (part c g w .records)), NOMEM) ∷ [])))
+      go : (b : Bool) → exists dom (part c g w .attachments) ≡ b → statusOf (mapChain (not b) (formSteps (own c g) r) meets full) ≡ statusOf (mapChain (not b) (formSteps (own c g) r) (any? (overlap r) (part c g w .records)) (leb (own c g .share) (length (part c g w .records))))
       go true x =
-          ap (λ n. cond (not (eqb n OK)) n (cond (any? (overlap r) (liveRecords (write c w))) INVAL (cond (leb (share (write c w .state .settings) (g .0)) (length (recordsOf g (liveRecords (write c w))))) NOMEM OK))) (form-is r)
-          ∙ ap (λ a. cond (not (eqb (firstOf (formSteps (own c g) r)) OK)) (firstOf (formSteps (own c g) r)) (cond a INVAL (cond (leb (share (write c w .state .settings) (g .0)) (length (recordsOf g (liveRecords (write c w))))) NOMEM OK))) (overlap-is dom r (existing-small dom x) e)
-          ∙ ap (λ a. cond (not (eqb (firstOf (formSteps (own c g) r)) OK)) (firstOf (formSteps (own c g) r)) (cond (any? (overlap r) (part c g w .records)) INVAL (cond a NOMEM OK))) held-is
-          ∙ sym (first-append (formSteps (own c g) r) _ (unfold formSteps in refl))
+          ap (λ o. statusOf (mapChain false (formSteps (own c g) r) o full)) (overlap-is dom r (existing-small dom x) e)
+          ∙ ap (λ u. statusOf (mapChain false (formSteps (own c g) r) (any? (overlap r) (part c g w .records)) u)) held-is
       go false x = refl
-
-  pub config-is : configOf (write c w .state) ≡ c
-  unfolding write
-  config-is = config-back c w good-c ∙ k
 
   -- while the guest holds less than its share there is room
   room : length (part c g w .records) < own c g .share → length (w .records) < maxRecords
@@ -233,11 +232,9 @@ module _ (c : Config) (k : kept c ≡ c) (w : World) (h : Whole c w) (g : Guest)
     where
       go : Clear (mapSteps (own c g) (part c g w) dom r) → inserted (write c w) r ≡ write c (replace c g (withRecords (insertMapping r (part c g w .records)) (part c g w)) w)
       go y =
-          let lo = clear-left (recordSteps (own c g) (part c g w .attachments) dom r) _ y in
-          let hi = clear-right (recordSteps (own c g) (part c g w .attachments) dom r) _ y in
-          let ex = not-false (exists dom (part c g w .attachments)) (lo .0) in
-          let guest-is = of-key-mine g dom r (existing-small dom ex) (unfold ofKey in eq-eqb (r .key) (keyOf g dom) e) in
-          inserted-written c w r (room (leb-false (own c g .share) (length (part c g w .records)) (hi .1 .0)))
+          let s = maps (own c g) (part c g w) dom r y in
+          let guest-is = of-key-mine g dom r (existing-small dom (s .early .there)) (unfold ofKey in eq-eqb (r .key) (keyOf g dom) e) in
+          inserted-written c w r (room (s .room))
           ∙ sym (ap (λ (v : World). write c v) (replace-records c w h g (insertMapping r (part c g w .records)) ∙ ap (λ (l : List Mapping). withRecs l w) (unfold part in with-inserted g r (w .records) guest-is (h .order))))
 
   straddle-is : (dom : Domain) (a b : ℕ) → dom .0 < domainSpan → any? (straddles (keyOf g dom) a b) (liveRecords (write c w)) ≡ any? (straddles (keyOf (own c g .guest) dom) a b) (part c g w .records)
@@ -246,15 +243,15 @@ module _ (c : Config) (k : kept c ≡ c) (w : World) (h : Whole c w) (g : Guest)
       keyed : (x : Mapping) → straddles (keyOf g dom) a b x ≡ true → ofKey (keyOf g dom) x ≡ true
       keyed x y = unfold straddles in both-left (ofKey (keyOf g dom) x) _ (both-left (ofKey (keyOf g dom) x && _) _ y)
 
-  unmap-status : (dom : Domain) (a b z : ℕ) → unmapStatus (write c w) g dom a b z ≡ firstOf (unmapSteps (own c g) (part c g w) dom a b z)
+  unmap-status : (dom : Domain) (a b z : ℕ) → unmapStatus (write c w) g dom a b z ≡ statusOf (unmapSteps (own c g) (part c g w) dom a b z)
   unfolding unmapStatus
   unmap-status dom a b z =
-      ap (λ x. firstOf ((not x, NOENT) ∷ (not (eqb z 0), INVAL) ∷ (ltb b a, RANGE) ∷ (any? (straddles (keyOf g dom) a b) (liveRecords (write c w)), RANGE) ∷ [])) (exists-is dom)
+      ap (λ x. statusOf (unmapChain (not x) (not (eqb z 0)) (ltb b a) (any? (straddles (keyOf g dom) a b) (liveRecords (write c w))))) (exists-is dom)
       ∙ go (exists dom (part c g w .attachments)) refl
     where
-      go : (t : Bool) → exists dom (part c g w .attachments) ≡ t → firstOf ((not t, NOENT) ∷ (not (eqb z 0), INVAL) ∷ (ltb b a, RANGE) ∷ (any? (straddles (keyOf g dom) a b) (liveRecords (write c w)), RANGE) ∷ [])
-          ≡ firstOf ((not t, NOENT) ∷ (not (eqb z 0), INVAL) ∷ (ltb b a, RANGE) ∷ (any? (straddles (keyOf (own c g .guest) dom) a b) (part c g w .records), RANGE) ∷ [])
-      go true x = ap (λ y. firstOf ((false, NOENT) ∷ (not (eqb z 0), INVAL) ∷ (ltb b a, RANGE) ∷ (y, RANGE) ∷ [])) (straddle-is dom a b (existing-small dom x))
+      go : (t : Bool) → exists dom (part c g w .attachments) ≡ t → statusOf (unmapChain (not t) (not (eqb z 0)) (ltb b a) (any? (straddles (keyOf g dom) a b) (liveRecords (write c w))))
+          ≡ statusOf (unmapChain (not t) (not (eqb z 0)) (ltb b a) (any? (straddles (keyOf (own c g .guest) dom) a b) (part c g w .records)))
+      go true x = ap (λ y. statusOf (unmapChain false (not (eqb z 0)) (ltb b a) y)) (straddle-is dom a b (existing-small dom x))
       go false x = refl
 
   within-inside : (key a b : ℕ) (r : Mapping) → within key key a b r ≡ inside key a b r
@@ -284,7 +281,7 @@ module _ (c : Config) (k : kept c ≡ c) (w : World) (h : Whole c w) (g : Guest)
       ap (λ n. settled n (write c w) (removed (write c w) (keyOf g dom) (keyOf g dom) a b)) (unmap-status dom a b z)
       ∙ settled-written c w g (unmapSteps (own c g) (part c g w) dom a b z) (write c w) (removed (write c w) (keyOf g dom) (keyOf g dom) a b) (part c g w) (withRecords (without (inside (keyOf (own c g .guest) dom) a b) (part c g w .records)) (part c g w)) refl same-world
       (λ y. removed-written c w (fits c w h) (keyOf g dom) (keyOf g dom) a b
-      ∙ sym (ap (λ (v : World). write c v) (replace-records c w h g (without (inside (keyOf (own c g .guest) dom) a b) (part c g w .records)) ∙ ap (λ (l : List Mapping). withRecs l w) (unmapped dom a b (existing-small dom (not-false _ (y .0)))))))
+      ∙ sym (ap (λ (v : World). write c v) (replace-records c w h g (without (inside (keyOf (own c g .guest) dom) a b) (part c g w .records)) ∙ ap (λ (l : List Mapping). withRecs l w) (unmapped dom a b (existing-small dom (unmap-there (own c g) (part c g w) dom a b z y))))))
 
   -- RESET
 

@@ -12,11 +12,11 @@ use Rattle.rules.specs.declared.Guest.{Guest}
 use Rattle.rules.specs.declared.State.{State}
 use Rattle.rules.specs.declared.Answer.the-variants.{Done, Served, Refused}
 use Rattle.rules.specs.declared.Refusal.{Refusal}
-use Rattle.rules.specs.declared.Refusal.the-variants.{NoSuchGuest, Unsound}
+use Rattle.rules.specs.declared.Refusal.the-variants.{NoSuchGuest, Unsound, UnknownType}
 use Rattle.rules.specs.Configuration.{Config}
 use Rattle.rules.specs.State.{World, Device, configOf, read, write}
 use Rattle.rules.specs.Guests.{Own, Part, own, part, replace}
-use Rattle.rules.specs.Requests.{ATTACH, DETACH, MAP, requestRefusals, typeOf, domainField, endpointField, attachReserved, virtStart, virtEnd, unmapReserved}
+use Rattle.rules.specs.Requests.{DEVERR, ATTACH, DETACH, MAP, UNMAP, requestRefusals, typeOf, domainField, endpointField, attachReserved, virtStart, virtEnd, unmapReserved}
 use Rattle.rules.specs.Handlers.{handleAttach, handleDetach, handleMap, handleUnmap, askedFor, handle}
 use Rattle.rules.specs.Access.{afterReset}
 use Rattle.rules.specs.Sound.{sound}
@@ -28,6 +28,7 @@ use Rattle.rules.proofs.Reading.{sound-whole}
 use Rattle.state.specs.Pieces.{Shaped}
 use Rattle.layouts.specs.Parsed.{asked, mapFields, unmapFields}
 use Rattle.layouts.specs.declared.request.Request.the-variants.{Attach, Detach, Map, Unmap}
+use Rattle.layouts.specs.declared.request.Request.the-variants as Q
 use Rattle.effects.specs.Flat.{Worked, worked, mapFlat, resetFlat}
 use Rattle.effects.specs.Serve.{recordOf, handled}
 use Rattle.effects.proofs.Shape.{settings-back, state-back, table-back}
@@ -93,15 +94,16 @@ module _ (d : Device) (h : sound d ≡ true) (k : Shaped (d .state)) where
     map-here r = unfold own in map-written (configOf (d .state)) kept-is (read d) whole g m (domainField r) (recordOf g (domainField r) (mapFields r)) refl
 
     pub handle-step : (r : List ℕ) → handled d g (asked r) ≡ back (handle (own (configOf (d .state)) g) (part (configOf (d .state)) g (read d)) r)
-    handle-step r = ap (λ (e : Device). handled e g (asked r)) written ∙ unfold asked handle in go (eqb (typeOf r) ATTACH) (eqb (typeOf r) DETACH) (eqb (typeOf r) MAP)
+    handle-step r = ap (λ (e : Device). handled e g (asked r)) written ∙ unfold asked handle in go (eqb (typeOf r) ATTACH) (eqb (typeOf r) DETACH) (eqb (typeOf r) MAP) (eqb (typeOf r) UNMAP)
       where
-        go : (t u v : Bool)
-            → handled (write (configOf (d .state)) (read d)) g (cond t (Attach (domainField r) (endpointField r) (attachReserved r)) (cond u (Detach (domainField r) (endpointField r) (attachReserved r)) (cond v (Map (domainField r) (mapFields r)) (Unmap (domainField r) (unmapFields r)))))
-            ≡ back (cond t (handleAttach (own (configOf (d .state)) g) (part (configOf (d .state)) g (read d)) (domainField r) (endpointField r) (attachReserved r)) (cond u (handleDetach (own (configOf (d .state)) g) (part (configOf (d .state)) g (read d)) (domainField r) (endpointField r) (attachReserved r)) (cond v (handleMap (own (configOf (d .state)) g) (part (configOf (d .state)) g (read d)) (domainField r) (askedFor (own (configOf (d .state)) g) r)) (handleUnmap (own (configOf (d .state)) g) (part (configOf (d .state)) g (read d)) (domainField r) (virtStart r) (virtEnd r) (unmapReserved r)))))
-        go true u v = unfold handled in attach-written (configOf (d .state)) kept-is (read d) whole g m (domainField r) (endpointField r) (attachReserved r)
-        go false true v = unfold handled in detach-written (configOf (d .state)) kept-is (read d) whole g m (domainField r) (endpointField r) (attachReserved r)
-        go false false true = unfold handled in map-here r
-        go false false false = unfold handled in unmap-written (configOf (d .state)) kept-is (read d) whole g m (domainField r) (virtStart r) (virtEnd r) (unmapReserved r)
+        go : (t u v x : Bool)
+            → handled (write (configOf (d .state)) (read d)) g (cond t (Attach (domainField r) (endpointField r) (attachReserved r)) (cond u (Detach (domainField r) (endpointField r) (attachReserved r)) (cond v (Map (domainField r) (mapFields r)) (cond x (Unmap (domainField r) (unmapFields r)) (Q.Refused UnknownType)))))
+            ≡ back (cond t (handleAttach (own (configOf (d .state)) g) (part (configOf (d .state)) g (read d)) (domainField r) (endpointField r) (attachReserved r)) (cond u (handleDetach (own (configOf (d .state)) g) (part (configOf (d .state)) g (read d)) (domainField r) (endpointField r) (attachReserved r)) (cond v (handleMap (own (configOf (d .state)) g) (part (configOf (d .state)) g (read d)) (domainField r) (askedFor (own (configOf (d .state)) g) r)) (cond x (handleUnmap (own (configOf (d .state)) g) (part (configOf (d .state)) g (read d)) (domainField r) (virtStart r) (virtEnd r) (unmapReserved r)) (DEVERR, part (configOf (d .state)) g (read d))))))
+        go true u v x = unfold handled in attach-written (configOf (d .state)) kept-is (read d) whole g m (domainField r) (endpointField r) (attachReserved r)
+        go false true v x = unfold handled in detach-written (configOf (d .state)) kept-is (read d) whole g m (domainField r) (endpointField r) (attachReserved r)
+        go false false true x = unfold handled in map-here r
+        go false false false true = unfold handled in unmap-written (configOf (d .state)) kept-is (read d) whole g m (domainField r) (virtStart r) (virtEnd r) (unmapReserved r)
+        go false false false false = unfold handled in ap (λ (v : World). worked DEVERR (write (configOf (d .state)) v)) (sym (replace-same (configOf (d .state)) (read d) whole g))
 
     -- a request that is refused, and one that is worked
     pub refused-step : (r b : List ℕ) (a : Refusal) → firstFailing (requestRefusals r (length b)) ≡ some a → step d (of-guest g (request r b)) ≡ (record { answer = Refused a; buffer = b }, d)

@@ -10,14 +10,14 @@ use Rattle.rules.specs.declared.Guest.{Guest}
 use Rattle.rules.specs.declared.Domain.{Domain}
 use Rattle.rules.specs.declared.Endpoint.{Endpoint}
 use Rattle.rules.specs.declared.State.{State}
-use Rattle.rules.specs.Sizes.{domainSpan}
+use Rattle.rules.specs.Sizes.{domainSpan, topAddress}
 use Rattle.rules.specs.Table.{keyOf}
 use Rattle.rules.specs.State.{Device}
 use Rattle.removal.specs.Removed.{keptOf, removedWords}
 use Rattle.state.specs.Fields.{withLive}
 use Rattle.attachments.specs.Changes.{attachedAt}
 use Rattle.resets.specs.Changes.{guestCleared}
-use Rattle.effects.specs.Flat.{device, worked, settled, topAddress, placeOfEndpoint, existsFlat, removed, left, entered, moved, attachStatus, attachFlat, detachStatus, detachFlat, resetFlat}
+use Rattle.effects.specs.Flat.{device, worked, settled, placeOfEndpoint, existsFlat, removed, left, entered, moved, attachStatus, attachFlat, detachStatus, detachFlat, resetFlat}
 
 pub remove-turn : (s : State) (ws vs : List ℕ) (low high a b n : ℕ) → n ≡ length (keptOf (s .live) low high a b ws) → vs ≡ removedWords (s .live) low high a b ws → device (withLive n s) vs ≡ removed (device s ws) low high a b
 unfolding removed

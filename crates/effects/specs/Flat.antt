@@ -1,17 +1,16 @@
 -- What each call does on the state's arrays and the table's words, as the code works it. The laws in proofs/ show that on sound
 -- state and table this is what document 01's rules give.
-use Prim.Native.Nat.{ℕ, suc, _+_, _-_, _*_, _/_, _%_, _^_, min}
-use mathlib.Core.Bool.{Bool, cond, not, _&&_, _||_}
-use mathlib.Core.List.{List, [], _∷_, _++_}
+use Prim.Native.Nat.{ℕ, suc, _+_, _-_, _*_, _/_, min}
+use mathlib.Core.Bool.{Bool, cond, not, _&&_}
+use mathlib.Core.List.{List, _++_}
 use mathlib.Core.Option.{Option, some, none}
 use lib.Dec.{leb, ltb, eqb}
 use lib.ListN.{length, getD, take, drop}
 use Rattle.laws.specs.Lists.{any?, tab}
-use Rattle.rules.specs.Sizes.{maxGuests, maxFaults, faultSize, domainSpan}
+use Rattle.rules.specs.Sizes.{maxGuests, maxFaults, faultSize, domainSpan, topAddress}
 use Rattle.rules.specs.declared.Guest.{Guest}
 use Rattle.rules.specs.declared.Endpoint.{Endpoint}
 use Rattle.rules.specs.declared.Domain.{Domain}
-use Rattle.rules.specs.declared.Settings.{Settings}
 use Rattle.rules.specs.declared.State.{State}
 use Rattle.rules.specs.declared.Mapping.{Mapping}
 use Rattle.rules.specs.declared.Fault.{Fault}
@@ -20,12 +19,12 @@ use Rattle.rules.specs.declared.Answer.the-variants.{Done, Served, Through, Fet
 use Rattle.rules.specs.declared.Refusal.the-variants.{UnknownEndpoint}
 use Rattle.rules.specs.declared.Cause.the-variants.{Unattached, Unmapped}
 use Rattle.rules.specs.declared.Access.{Access}
-use Rattle.rules.specs.Configuration.{share, windowFirst, windowLast}
+use Rattle.rules.specs.Configuration.{share}
 use Rattle.rules.specs.Table.{keyOf, records, overlap}
-use Rattle.rules.specs.State.{Device, faultAt}
-use Rattle.rules.specs.Guests.{recordsOf}
-use Rattle.rules.specs.Requests.{OK, INVAL, RANGE, NOENT, FAULT, NOMEM}
-use Rattle.rules.specs.Handlers.{outside, granularity, straddles}
+use Rattle.rules.specs.State.{Device, configOf, faultAt}
+use Rattle.rules.specs.Guests.{own, recordsOf}
+use Rattle.rules.specs.Requests.{OK, DEVERR}
+use Rattle.rules.specs.Handlers.{statusOf, outside, attachChain, detachChain, formSteps, mapChain, straddles, unmapChain}
 use Rattle.rules.specs.Access.{findMapping, faultOf, bytesOf}
 use Rattle.insertion.specs.Inserted.{insertedWords}
 use Rattle.removal.specs.Removed.{keptOf, removedWords}
@@ -45,10 +44,6 @@ pub record Worked : Type 0 where
 
 abbrev pub worked : ℕ → Device → Worked
 worked st d = record { status = st; left = d }
-
--- every address there is
-abbrev pub topAddress : ℕ
-topAddress = 2 ^ 64 - 1
 
 -- ENDPOINTS
 
@@ -99,57 +94,46 @@ moved d g i dom =
     (cond (eqb (getD (d .state .domains) i 0) (dom .0)) d (entered (left d g i (domainAt (d .state) i)) i dom))
     (entered d i dom)
 
-abbrev pub firstOf : List (Bool × ℕ) → ℕ
-firstOf [] = OK
-firstOf (s ∷ l) = cond (s .0) (s .1) (firstOf l)
-
--- the device where the status is OK, else as it was
+-- the status, with e where it is OK, else with d
 abbrev pub settled : ℕ → Device → Device → Worked
-settled st d e = cond (eqb st OK) (worked OK e) (worked st d)
+settled st d e = worked st (cond (eqb st OK) e d)
 
+-- the status of an ATTACH of the endpoint at place i
 unfoldable pub attachStatus : State → Guest → Domain → ℕ → ℕ → ℕ
 attachStatus s g dom i reserved =
-    firstOf ((not (eqb reserved 0), INVAL) ∷ (not (ownedAt s g i), NOENT) ∷ (outside (s .settings .domains .start) (s .settings .domains .end) (dom .0), RANGE) ∷ [])
+    statusOf (attachChain (not (eqb reserved 0)) (not (ownedAt s g i)) (outside (s .settings .domains .start) (s .settings .domains .end) (dom .0)))
 
 unfoldable pub attachFlat : Device → Guest → Domain → Endpoint → ℕ → Worked
 attachFlat d g dom e reserved = settled (attachStatus (d .state) g dom (placeOfEndpoint (d .state) e) reserved) d (moved d g (placeOfEndpoint (d .state) e) dom)
 
+-- the status of a DETACH of the endpoint at place i
 unfoldable pub detachStatus : State → Guest → Domain → ℕ → ℕ → ℕ
 detachStatus s g dom i reserved =
-    firstOf ((not (eqb reserved 0), INVAL) ∷ (not (ownedAt s g i), NOENT) ∷ (not (isAttached s i && eqb (getD (s .domains) i 0) (dom .0)), INVAL) ∷ [])
+    statusOf (detachChain (not (eqb reserved 0)) (not (ownedAt s g i)) (not (isAttached s i && eqb (getD (s .domains) i 0) (dom .0))))
 
 unfoldable pub detachFlat : Device → Guest → Domain → Endpoint → ℕ → Worked
 detachFlat d g dom e reserved = settled (detachStatus (d .state) g dom (placeOfEndpoint (d .state) e) reserved) d (left d g (placeOfEndpoint (d .state) e) dom)
 
 -- MAP AND UNMAP
 
--- steps 2 to 6 for guest g
-unfoldable pub formStatus : Settings → Guest → Mapping → ℕ
-formStatus s g r =
-    firstOf ((ltb 3 (r .flags), INVAL)
-    ∷ (leb (r .end) (r .start), RANGE)
-    ∷ (not (eqb (r .start % granularity (s .mask)) 0) || not (eqb ((r .end + 1) % granularity (s .mask)) 0), RANGE)
-    ∷ (outside (s .input .start) (s .input .end) (r .start) || outside (s .input .start) (s .input .end) (r .end), RANGE)
-    ∷ (outside (windowFirst s (g .0)) (windowLast s (g .0)) (r .phys) || outside (windowFirst s (g .0)) (windowLast s (g .0)) (r .phys + r .end - r .start), FAULT)
-    ∷ [])
-
 unfoldable pub mapStatus : Device → Guest → Domain → Mapping → ℕ
 mapStatus d g dom r =
-    cond (not (existsFlat (d .state) g dom)) NOENT
-    (cond (not (eqb (formStatus (d .state .settings) g r) OK)) (formStatus (d .state .settings) g r)
-    (cond (any? (overlap r) (liveRecords d)) INVAL
-    (cond (leb (share (d .state .settings) (g .0)) (length (recordsOf g (liveRecords d)))) NOMEM OK)))
+    statusOf (mapChain
+    (not (existsFlat (d .state) g dom))
+    (formSteps (own (configOf (d .state)) g) r)
+    (any? (overlap r) (liveRecords d))
+    (leb (share (d .state .settings) (g .0)) (length (recordsOf g (liveRecords d)))))
 
 unfoldable pub mapFlat : Device → Guest → Domain → Mapping → Worked
 mapFlat d g dom r = settled (mapStatus d g dom r) d (inserted d r)
 
--- the same where the guest and one record more have places, as in a sound device; else nothing is done
+-- the same where the guest has a place and one record more can be counted, as in a sound device; else a device error
 unfoldable pub mapPlaced : Device → Guest → Domain → Mapping → Worked
-mapPlaced d g dom r = cond (ltb (g .0) maxGuests && ltb (d .state .live) topAddress) (mapFlat d g dom r) (worked OK d)
+mapPlaced d g dom r = cond (ltb (g .0) maxGuests && ltb (d .state .live) topAddress) (mapFlat d g dom r) (worked DEVERR d)
 
 unfoldable pub unmapStatus : Device → Guest → Domain → ℕ → ℕ → ℕ → ℕ
 unmapStatus d g dom a b reserved =
-    firstOf ((not (existsFlat (d .state) g dom), NOENT) ∷ (not (eqb reserved 0), INVAL) ∷ (ltb b a, RANGE) ∷ (any? (straddles (keyOf g dom) a b) (liveRecords d), RANGE) ∷ [])
+    statusOf (unmapChain (not (existsFlat (d .state) g dom)) (not (eqb reserved 0)) (ltb b a) (any? (straddles (keyOf g dom) a b) (liveRecords d)))
 
 unfoldable pub unmapFlat : Device → Guest → Domain → ℕ → ℕ → ℕ → Worked
 unmapFlat d g dom a b reserved = settled (unmapStatus d g dom a b reserved) d (removed d (keyOf g dom) (keyOf g dom) a b)

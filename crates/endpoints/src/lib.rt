@@ -1,11 +1,10 @@
 // ATTACH and DETACH, on the state's arrays and the table's words.
 ghost use mathlib.Core.Path.{_≡_};
 ghost use mathlib.Core.Bool.{_&&_};
-ghost use mathlib.Core.List.{[], _∷_};
 ghost use lib.Dec.{ltb, eqb};
 ghost use lib.ListN.{getD};
-ghost use Rattle.rules.specs.Handlers.{outside};
-ghost use Rattle.effects.specs.Flat.{device, firstOf, attachStatus, attachFlat, detachStatus, detachFlat};
+ghost use Rattle.rules.specs.Handlers.{statusOf, outside, attachChain, detachChain};
+ghost use Rattle.effects.specs.Flat.{device, attachStatus, attachFlat, detachStatus, detachFlat};
 ghost use Rattle.effects.specs.Outcome.{outcome};
 use effects::Handled;
 use rules::Domain;
@@ -35,18 +34,18 @@ fn is_outside(a: u32, b: u32, x: u32) -> bool
     (x < a) | (b < x)
 }
 
-// The status of the first of three steps that fails.
-fn first_of(a: bool, x: u8, b: bool, y: u8, c: bool, z: u8) -> u8
-    ensures { λ r. ⌜ r ≡ firstOf ((a, x) ∷ (b, y) ∷ (c, z) ∷ []) ⌝ }
+// The status of ATTACH, by what its steps' tests give.
+fn first_attach(reserved: bool, unlisted: bool, beyond: bool) -> u8
+    ensures { λ r. ⌜ r ≡ statusOf (attachChain reserved unlisted beyond) ⌝ }
 {
-    if a {
-        return x;
+    if reserved {
+        return INVAL;
     }
-    if b {
-        return y;
+    if unlisted {
+        return NOENT;
     }
-    if c {
-        return z;
+    if beyond {
+        return RANGE;
     }
     OK
 }
@@ -58,11 +57,18 @@ fn attach_status(s: State, g: Guest, d: Domain, i: usize, reserved: u64) -> u8
     let settings = s.settings;
     let owned = owned_at(s.listed, &s.owners, g, i);
     let beyond = is_outside(settings.domains.start, settings.domains.end, d.0);
-    first_of(reserved != 0, INVAL, !owned, NOENT, beyond, RANGE)
+    first_attach(reserved != 0, !owned, beyond)
 }
 
 // ATTACH: the endpoint e to domain d.
-pub fn attach(s: State, t: &mut [u64], g: Guest, d: Domain, e: Endpoint, reserved: u64) -> Handled
+pub fn handle_attach(
+    s: State,
+    t: &mut [u64],
+    g: Guest,
+    d: Domain,
+    e: Endpoint,
+    reserved: u64,
+) -> Handled
     ensures { λ r. ⌜ outcome r (now (t .exit)) ≡ attachFlat (device s (now (t .entry))) g d e reserved ⌝ }
 {
     let i = attachments::place_of(s.listed, &s.endpoints, e);
@@ -87,17 +93,40 @@ fn is_in(s: State, i: usize, d: Domain) -> bool
     (s.attached[i] == 1) & (s.domains[i] == d.0)
 }
 
+// The status of DETACH, by what its steps' tests give.
+fn first_detach(reserved: bool, unlisted: bool, elsewhere: bool) -> u8
+    ensures { λ r. ⌜ r ≡ statusOf (detachChain reserved unlisted elsewhere) ⌝ }
+{
+    if reserved {
+        return INVAL;
+    }
+    if unlisted {
+        return NOENT;
+    }
+    if elsewhere {
+        return INVAL;
+    }
+    OK
+}
+
 // The status of a DETACH of the endpoint at place i.
 fn detach_status(s: State, g: Guest, d: Domain, i: usize, reserved: u64) -> u8
     ensures { λ r. ⌜ r ≡ detachStatus s g d i reserved ⌝ }
 {
     let owned = owned_at(s.listed, &s.owners, g, i);
     let there = is_in(s, i, d);
-    first_of(reserved != 0, INVAL, !owned, NOENT, !there, INVAL)
+    first_detach(reserved != 0, !owned, !there)
 }
 
 // DETACH: the endpoint e from domain d.
-pub fn detach(s: State, t: &mut [u64], g: Guest, d: Domain, e: Endpoint, reserved: u64) -> Handled
+pub fn handle_detach(
+    s: State,
+    t: &mut [u64],
+    g: Guest,
+    d: Domain,
+    e: Endpoint,
+    reserved: u64,
+) -> Handled
     ensures { λ r. ⌜ outcome r (now (t .exit)) ≡ detachFlat (device s (now (t .entry))) g d e reserved ⌝ }
 {
     let i = attachments::place_of(s.listed, &s.endpoints, e);

@@ -1,21 +1,21 @@
 -- Steps 2 to 6 of MAP: the lowest set bit, alignment of virt_end + 1 and the window's end without a sum that could wrap.
 use Prim.Native.Nat.{ℕ, zero, suc, _+_, _-_, _*_, _/_, _%_, _^_, _<_, _≤_}
 use mathlib.Core.Path.{_≡_, refl, sym, ap, _∙_}
-use mathlib.Core.Bool.{Bool, true, false, not, _&&_}
-use mathlib.Core.List.{[], _∷_}
+use mathlib.Core.Bool.{Bool, true, false, not, _&&_, _||_}
 use mathlib.Core.Logic.{⊎-elim}
 use native.Mathlib.Omega.{arith}
 use native.Mathlib.Nat.{pow-suc, mod-lt, mod-self, mod-eq-of-lt, mod-add-mod, eq-or-lt-of-le, one-mul}
 use lib.Count.{trailingZeros, under}
 use lib.Dec.{leb, ltb, eqb}
 use lib.Pow.{shl-exact}
-use borrow.Author.Tests.{ltb-false, leb-true, eq-eqb, ne-eqb, le-ltb, le-leb, lt-leb, not-false}
-use Rattle.laws.proofs.Tests.{both, both-left, both-right, or-none, nor, same-test, true-false, Each, Clear, cleared, passed}
+use borrow.Author.Tests.{ltb-false, leb-true, leb-false, eq-eqb, ne-eqb, lt-ltb, le-ltb, le-leb, lt-leb}
+use Rattle.laws.proofs.Tests.{or-left, or-right, or-none, same-test}
+use Rattle.rules.specs.Sizes.{topAddress}
 use Rattle.rules.specs.declared.InputRange.{InputRange}
 use Rattle.rules.specs.declared.Mapping.{Mapping}
-use Rattle.rules.specs.Handlers.{outside, granularity, formSteps}
-use Rattle.rules.specs.Sound.{passes}
-use Rattle.rules.proofs.Parts.{passes-none, outside-high}
+use Rattle.rules.specs.Requests.{OK}
+use Rattle.rules.specs.Handlers.{statusOf, outside, granularity, formChain, formSteps}
+use Rattle.rules.proofs.Chains.{status-passes}
 use Rattle.forms.specs.Forms.{limits, formGood}
 
 pub trailing-lt : (k n : ℕ) → 0 < n → n < 2 ^ k → trailingZeros k n < k
@@ -48,7 +48,7 @@ next-aligned e g h =
     (eq-or-lt-of-le m)
 
 -- where no bit is set, only the addresses from the first to the last of all are aligned
-pub no-bit : (s e : ℕ) → s < 2 ^ 64 → e < 2 ^ 64 → (eqb s 0 && eqb e 18446744073709551615) ≡ (eqb (s % granularity 0) 0 && eqb ((e + 1) % granularity 0) 0)
+pub no-bit : (s e : ℕ) → s < 2 ^ 64 → e < 2 ^ 64 → (eqb s 0 && eqb e topAddress) ≡ (eqb (s % granularity 0) 0 && eqb ((e + 1) % granularity 0) 0)
 unfolding granularity trailingZeros
 no-bit s e h k = rw (← next-aligned e (2 ^ 64) (omega arith), mod-eq-of-lt h, mod-eq-of-lt k)
 
@@ -59,67 +59,51 @@ sum-within a b p l h k =
     (λ e. le-leb (p + b - a) l (omega (arith, leb-true)))
     (λ e. le-leb (b - a) (l - p) (omega (arith, leb-true)))
 
-inside : (a b x : ℕ) → a ≤ x → x ≤ b → outside a b x ≡ false
-unfolding outside
-inside a b x h k = or-none (ltb x a) (ltb b x) (le-ltb x a h) (le-ltb b x k)
+-- one test is false where the other is true
+not-leb : (a b : ℕ) → not (leb a b) ≡ ltb b a
+not-leb a b = go (leb a b) refl
+  where
+    go : (t : Bool) → leb a b ≡ t → not t ≡ ltb b a
+    go true e = sym (le-ltb b a (leb-true a b e))
+    go false e = sym (lt-ltb b a (leb-false a b e))
 
-seven : (f a b i j w x : Bool) → ((f && (a && b)) && ((i && j) && (w && x))) ≡ true → Each (f ∷ a ∷ b ∷ i ∷ j ∷ w ∷ x ∷ [])
-seven f a b i j w x e =
-    let p : (f && (a && b)) ≡ true = both-left (f && (a && b)) ((i && j) && (w && x)) e in
-    let q : ((i && j) && (w && x)) ≡ true = both-right (f && (a && b)) ((i && j) && (w && x)) e in
-    let ab : (a && b) ≡ true = both-right f (a && b) p in
-    let ij : (i && j) ≡ true = both-left (i && j) (w && x) q in
-    let wx : (w && x) ≡ true = both-right (i && j) (w && x) q in
-    (both-left f (a && b) p, (both-left a b ab, (both-right a b ab, (both-left i j ij, (both-right i j ij, (both-left w x wx, (both-right w x wx, tt)))))))
+-- not both, and one or the other not
+neither : (a b : Bool) → not (a && b) ≡ (not a || not b)
+neither true b = refl
+neither false b = refl
+
+-- of the numbers from x to y one end lies outside those from a to b where x lies below or y above
+ends-out : (a b x y : ℕ) → x ≤ y → (ltb x a || ltb b y) ≡ (outside a b x || outside a b y)
+unfolding outside
+ends-out a b x y h = go (ltb x a) refl (ltb b y) refl
+  where
+    go : (t : Bool) → ltb x a ≡ t → (u : Bool) → ltb b y ≡ u → (t || u) ≡ ((ltb x a || ltb b x) || (ltb y a || ltb b y))
+    go true e u f = sym (or-left _ _ (or-left _ _ e))
+    go false e true f = sym (or-right (ltb x a || ltb b x) _ (or-right (ltb y a) _ f))
+    go false e false f =
+        let low : a ≤ x = ltb-false x a e in
+        let high : y ≤ b = ltb-false b y f in
+        sym (or-none _ _ (or-none _ _ e (le-ltb b x (omega arith))) (or-none _ _ (le-ltb y a (omega arith)) f))
+
+-- and the same of a record's physical addresses, by the test of its window
+window-out : (first last p a b : ℕ) → a ≤ b → not (leb a b && (leb first p && leb (p + b - a) last)) ≡ (outside first last p || outside first last (p + b - a))
+window-out first last p a b h = rw (le-leb a b h, neither (leb first p) (leb (p + b - a) last), not-leb first p, not-leb (p + b - a) last) (ends-out first last p (p + b - a) (omega arith))
+
+-- STEPS 2 TO 6
 
 module _ (mask : ℕ) (input : InputRange) (first last : ℕ) (r : Mapping) where
-  -- steps 2 to 6 as a record's range is tested that is not empty
-  abbrev pub tests : Bool
-  tests =
-      (leb (r .flags) 3 && (eqb (r .start % granularity mask) 0 && eqb ((r .end + 1) % granularity mask) 0))
-      && ((leb (input .start) (r .start) && leb (r .end) (input .end)) && (leb first (r .phys) && leb (r .phys + r .end - r .start) last))
+  -- of no addresses the later steps are not asked
+  pub form-empty : r .end ≤ r .start → statusOf (formChain (ltb 3 (r .flags)) true false false false) ≡ statusOf (formSteps (limits mask input first last) r)
+  unfolding formSteps
+  form-empty h = rw (le-leb (r .end) (r .start) h)
 
-  pub form-tests : r .start < r .end → formGood mask input first last r ≡ tests
-  unfolding formGood formSteps
-  form-tests h =
-      same-test (formGood mask input first last r) tests
-      (λ e.
-      let c = cleared (formSteps (limits mask input first last) r) (passes-none _ e) in
-      let f = c .0 in
-      let a = nor _ _ (c .1 .1 .0) in
-      let i = nor _ _ (c .1 .1 .1 .0) in
-      let w = nor _ _ (c .1 .1 .1 .1 .0) in
-      both _ _
-      (both _ _ (le-leb (r .flags) 3 (ltb-false 3 (r .flags) f)) (both _ _ (not-false (eqb (r .start % granularity mask) 0) (a .0)) (not-false (eqb ((r .end + 1) % granularity mask) 0) (a .1))))
-      (both _ _
-      (both _ _ (le-leb (input .start) (r .start) (outside-high (input .start) (input .end) (r .start) (i .0) .0)) (le-leb (r .end) (input .end) (outside-high (input .start) (input .end) (r .end) (i .1) .1)))
-      (both _ _ (le-leb first (r .phys) (outside-high first last (r .phys) (w .0) .0)) (le-leb (r .phys + r .end - r .start) last (outside-high first last (r .phys + r .end - r .start) (w .1) .1)))))
-      (λ e.
-      let t =
-      seven (leb (r .flags) 3) (eqb (r .start % granularity mask) 0) (eqb ((r .end + 1) % granularity mask) 0) (leb (input .start) (r .start)) (leb (r .end) (input .end)) (leb first (r .phys))
-      (leb (r .phys + r .end - r .start) last) e in
-      let i0 : input .start ≤ r .start = leb-true (input .start) (r .start) (t .1 .1 .1 .0) in
-      let i1 : r .end ≤ input .end = leb-true (r .end) (input .end) (t .1 .1 .1 .1 .0) in
-      let w0 : first ≤ r .phys = leb-true first (r .phys) (t .1 .1 .1 .1 .1 .0) in
-      let w1 : r .phys + r .end - r .start ≤ last = leb-true (r .phys + r .end - r .start) last (t .1 .1 .1 .1 .1 .1 .0) in
-      let clear : Clear (formSteps (limits mask input first last) r) = (
-        le-ltb 3 (r .flags) (leb-true (r .flags) 3 (t .0)),
-        (
-          lt-leb (r .end) (r .start) h,
-          (
-            or-none _ _ (ap not (t .1 .0)) (ap not (t .1 .1 .0)),
-            (
-              or-none _ _ (inside (input .start) (input .end) (r .start) i0 (omega arith)) (inside (input .start) (input .end) (r .end) (omega arith) i1),
-              (or-none _ _ (inside first last (r .phys) w0 (omega arith)) (inside first last (r .phys + r .end - r .start) (omega arith) w1), tt),
-            ),
-          ),
-        ),
-      ) in
-      ap passes (passed (formSteps (limits mask input first last) r) clear))
+  pub form-tests : (a w : Bool) → r .start < r .end → a ≡ (eqb (r .start % granularity mask) 0 && eqb ((r .end + 1) % granularity mask) 0)
+      → w ≡ (leb (r .start) (r .end) && (leb first (r .phys) && leb (r .phys + r .end - r .start) last))
+      → statusOf (formChain (ltb 3 (r .flags)) false (not a) (ltb (r .start) (input .start) || ltb (input .end) (r .end)) (not w)) ≡ statusOf (formSteps (limits mask input first last) r)
+  unfolding formSteps
+  form-tests a w h ea ew =
+      rw (ea, ew, lt-leb (r .end) (r .start) h, ends-out (input .start) (input .end) (r .start) (r .end) (omega arith), window-out first last (r .phys) (r .start) (r .end) (omega arith), neither (eqb (r .start % granularity mask) 0) (eqb ((r .end + 1) % granularity mask) 0))
 
-  pub form-empty : r .end ≤ r .start → formGood mask input first last r ≡ false
-  unfolding formGood formSteps
-  form-empty h =
-      same-test (formGood mask input first last r) false
-      (λ e. true-false (leb (r .end) (r .start)) (le-leb (r .end) (r .start) h) (cleared (formSteps (limits mask input first last) r) (passes-none _ e) .1 .0))
-      (λ e. true-false true refl (sym e))
+  pub form-passes : (x : ℕ) → x ≡ statusOf (formSteps (limits mask input first last) r) → eqb x OK ≡ formGood mask input first last r
+  unfolding formGood
+  form-passes x e = rw e (status-passes (formSteps (limits mask input first last) r) (unfold formSteps in refl))

@@ -2,7 +2,6 @@
 mod form;
 mod runs;
 
-pub use form::aligned;
-pub use form::in_window;
+pub use form::form_status;
 pub use form::opens;
 pub use runs::run_end;

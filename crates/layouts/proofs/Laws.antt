@@ -25,10 +25,6 @@ at-least {t} w = rw (w .sized) (go t (w .low) (w .high))
     go (suc (suc (suc (suc zero)))) l h = omega arith
     go (suc (suc (suc (suc (suc t))))) l h = absurd (omega arith)
 
--- a known type that is neither ATTACH, DETACH nor MAP is UNMAP
-pub only-unmap : (t : ℕ) → (t ≡ 1 → ⊥) → (t ≡ 2 → ⊥) → (t ≡ 3 → ⊥) → 1 ≤ t → t ≤ 4 → t ≡ 4
-only-unmap t a d m l h = omega arith
-
 -- the request is taken apart where its parts have m and w bytes, and is refused where not
 abbrev pub ByLengths : List ℕ → ℕ → ℕ → ℕ → Type 0
 ByLengths r n m w = (b : Bool) → (eqb (length r) m && eqb n w) ≡ b → parsed r n ≡ cond b (asked r) (Refused WrongLength)

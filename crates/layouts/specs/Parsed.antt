@@ -8,6 +8,7 @@ use lib.Dec.{eqb}
 use lib.ListN.{length}
 use Rattle.laws.specs.Lists.{firstFailing}
 use Rattle.rules.specs.declared.Refusal.{Refusal}
+use Rattle.rules.specs.declared.Refusal.the-variants.{UnknownType}
 use Rattle.rules.specs.Requests.{ATTACH, DETACH, MAP, UNMAP, readableLength, typeOf, domainField, endpointField, attachReserved, virtStart, virtEnd, physStart, mapFlags, unmapReserved, requestRefusals}
 use Rattle.layouts.specs.declared.request.MapFields.{MapFields}
 use Rattle.layouts.specs.declared.request.UnmapFields.{UnmapFields}
@@ -22,13 +23,14 @@ mapFields r = record { start = virtStart r; end = virtEnd r; phys = physStart r;
 abbrev pub unmapFields : List ℕ → UnmapFields
 unmapFields r = record { start = virtStart r; end = virtEnd r; reserved = unmapReserved r }
 
--- the fields of the readable part r, by its type as `handle` goes by it
+-- the fields of the readable part r, by its type as `handle` goes by it; a request of any other type is refused
 unfoldable pub asked : List ℕ → Request
 asked r =
     cond (eqb (typeOf r) ATTACH) (Attach (domainField r) (endpointField r) (attachReserved r))
     (cond (eqb (typeOf r) DETACH) (Detach (domainField r) (endpointField r) (attachReserved r))
     (cond (eqb (typeOf r) MAP) (Map (domainField r) (mapFields r))
-    (Unmap (domainField r) (unmapFields r))))
+    (cond (eqb (typeOf r) UNMAP) (Unmap (domainField r) (unmapFields r))
+    (Refused UnknownType))))
 
 -- a refusal, or what is asked where there is none
 unfoldable pub unless : Option Refusal → Request → Request

@@ -113,8 +113,8 @@ fn taken_apart(readable: &[u8], kind: u8) -> Request
         ATTACH => Request::Attach(domain, endpoint_field(readable), reserved_field(readable)),
         DETACH => Request::Detach(domain, endpoint_field(readable), reserved_field(readable)),
         MAP => Request::Map(domain, map_fields(readable)),
-        // Of the known types only UNMAP is left.
-        0 | 4..=255 => Request::Unmap(domain, unmap_fields(readable)),
+        UNMAP => Request::Unmap(domain, unmap_fields(readable)),
+        0 | 5..=255 => Request::Refused(Refusal::UnknownType),
     }
 }
 

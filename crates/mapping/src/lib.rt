@@ -1,19 +1,18 @@
 // MAP, on the state's arrays and the table's words.
-mod form;
-
 ghost use mathlib.Core.Path.{_≡_};
 ghost use mathlib.Core.List.{[], _∷_};
 ghost use Prim.Native.Nat.{_<_};
 ghost use Rattle.rules.specs.Sizes.{maxGuests};
-ghost use Rattle.rules.specs.Requests.{INVAL, NOENT, NOMEM};
-ghost use Rattle.effects.specs.Flat.{device, firstOf, mapStatus, mapPlaced};
+ghost use Rattle.rules.specs.Handlers.{statusOf, mapChain};
+ghost use Rattle.effects.specs.Flat.{device, mapStatus, mapPlaced};
 ghost use Rattle.effects.specs.Outcome.{outcome};
 use effects::Handled;
-use form::form_status;
+use forms::form_status;
 use rules::Domain;
 use rules::Guest;
 use rules::Mapping;
 use rules::State;
+use rules::requests::DEVERR;
 use rules::requests::INVAL;
 use rules::requests::NOENT;
 use rules::requests::NOMEM;
@@ -23,9 +22,9 @@ use rules::sizes::MAX_GUESTS;
 // The places for guests, as a guest's number counts them.
 const GUEST_PLACES: u8 = MAX_GUESTS as u8;
 
-// The status of MAP by its steps, where form is that of steps 2 to 6.
+// The status of MAP, by what its steps' tests give; of steps 2 to 6 whether one fails, and their status.
 fn first_map(missing: bool, failing: bool, form: u8, meets: bool, full: bool) -> u8
-    ensures { λ x. ⌜ x ≡ firstOf ((missing, NOENT) ∷ (failing, form) ∷ (meets, INVAL) ∷ (full, NOMEM) ∷ []) ⌝ }
+    ensures { λ x. ⌜ x ≡ statusOf (mapChain missing ((failing, form) ∷ []) meets full) ⌝ }
 {
     if missing {
         return NOENT;
@@ -55,23 +54,26 @@ fn map_status(s: State, t: &[u64], g: Guest, d: Domain, r: Mapping) -> u8
     ensures { λ x. ⌜ x ≡ mapStatus (device s (now (t .entry))) g d r ⌝ }
 {
     let exists = attachments::domain_exists(&s.owners, &s.attached, &s.domains, g, d);
-    let form = form_status(s.settings, g, r);
+    let settings = s.settings;
+    let i = g.0 as usize;
+    let first = settings.firsts[i];
+    let last = settings.lasts[i];
+    let form = form_status(settings.mask, settings.input, first, last, r);
     let meets = overlaps::overlaps(t, s.live, r);
     let held = holdings::held(t, s.live, g);
-    let shares = s.settings.shares;
-    let limit = shares[g.0 as usize];
+    let limit = settings.shares[i];
     first_map(!exists, form != OK, form, meets, wide(limit) <= held)
 }
 
-// MAP for a guest: the record goes into the table where every step passes. Nothing is done where the guest or one
-// record more has no place, which a sound state rules out.
-pub fn map(s: State, t: &mut [u64], g: Guest, d: Domain, r: Mapping) -> Handled
+// MAP for a guest: the record goes into the table where every step passes. It is a device error where the guest has no
+// place or one record more can't be counted, which a sound state rules out.
+pub fn handle_map(s: State, t: &mut [u64], g: Guest, d: Domain, r: Mapping) -> Handled
     ensures { λ x. ⌜ outcome x (now (t .exit)) ≡ mapPlaced (device s (now (t .entry))) g d r ⌝ }
 {
     let live = s.live;
     if !((g.0 < GUEST_PLACES) & (live < usize::MAX)) {
         return Handled {
-            status: OK,
+            status: DEVERR,
             state: s,
         };
     }

@@ -10,9 +10,7 @@ use rules::Guest;
 use rules::State;
 use rules::sizes::DOMAIN_SPAN;
 use rules::sizes::MAX_ENDPOINTS;
-
-// Every address there is.
-pub(crate) const TOP_ADDRESS: u64 = 18446744073709551615;
+use rules::sizes::TOP_ADDRESS;
 
 // The first word of the records of a guest's domain.
 pub fn key_of(g: Guest, d: Domain) -> u64

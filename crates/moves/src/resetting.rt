@@ -4,6 +4,7 @@ ghost use Rattle.effects.specs.Flat.{device, resetFlat};
 use rules::Guest;
 use rules::State;
 use rules::sizes::DOMAIN_SPAN;
+use rules::sizes::TOP_ADDRESS;
 
 // The highest domain number.
 const LAST_DOMAIN: u64 = DOMAIN_SPAN - 1;
@@ -14,5 +15,5 @@ pub fn reset(s: State, t: &mut [u64], g: Guest) -> State
 {
     let next = resets::clear_guest(s, g);
     let low = (g.0 as u64) * DOMAIN_SPAN;
-    crate::remove(next, t, low, low + LAST_DOMAIN, 0, crate::TOP_ADDRESS)
+    crate::remove(next, t, low, low + LAST_DOMAIN, 0, TOP_ADDRESS)
 }

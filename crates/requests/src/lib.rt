@@ -5,7 +5,7 @@ ghost use mathlib.Core.Path.{_≡_};
 ghost use mathlib.Core.Bool.{true};
 ghost use Prim.Native.Nat.{_<_};
 ghost use lib.Dec.{ltb};
-ghost use Rattle.rules.specs.Sizes.{maxGuests};
+ghost use Rattle.rules.specs.Sizes.{maxGuests, topAddress};
 ghost use Rattle.rules.specs.Sound.{sound};
 ghost use Rattle.rules.specs.Device as rules;
 ghost use Rattle.effects.specs.Flat.{device};
@@ -21,21 +21,21 @@ use rules::Answer;
 use rules::Guest;
 use rules::Mapping;
 use rules::State;
-use rules::requests::OK;
 use rules::sizes::STATUS_SIZE;
+use rules::requests::DEVERR;
 
-// The handler of a request's type.
+// What the handler of a request's type gives; a refused request has none.
 fn handle(s: State, t: &mut [u64], g: Guest, q: Request) -> Handled
-    requires { ⌜ (g .0 < maxGuests) × (s .live < 18446744073709551615) ⌝ }
+    requires { ⌜ (g .0 < maxGuests) × (s .live < topAddress) ⌝ }
     ensures { λ r. ⌜ outcome r (now (t .exit)) ≡ handled (device s (now (t .entry))) g q ⌝ }
 {
     match q {
         Request::Refused(_) => Handled {
-            status: OK,
+            status: DEVERR,
             state: s,
         },
-        Request::Attach(d, e, reserved) => endpoints::attach(s, t, g, d, e, reserved),
-        Request::Detach(d, e, reserved) => endpoints::detach(s, t, g, d, e, reserved),
+        Request::Attach(d, e, reserved) => endpoints::handle_attach(s, t, g, d, e, reserved),
+        Request::Detach(d, e, reserved) => endpoints::handle_detach(s, t, g, d, e, reserved),
         Request::Map(d, f) => {
             let r = Mapping {
                 key: moves::key_of(g, d),
@@ -44,9 +44,9 @@ fn handle(s: State, t: &mut [u64], g: Guest, q: Request) -> Handled
                 phys: f.phys,
                 flags: f.flags,
             };
-            mapping::map(s, t, g, d, r)
+            mapping::handle_map(s, t, g, d, r)
         }
-        Request::Unmap(d, f) => unmapping::unmap(s, t, g, d, f.start, f.end, f.reserved),
+        Request::Unmap(d, f) => unmapping::handle_unmap(s, t, g, d, f.start, f.end, f.reserved),
     }
 }
 

@@ -9,7 +9,7 @@ use lib.Dec.{leb, eqb}
 use lib.ListN.{length, getD}
 use borrow.Author.Tests.{leb-true, eqb-true, eq-eqb, le-leb, not-true}
 use Rattle.laws.specs.Lists.{all?, find, pairwise}
-use Rattle.laws.proofs.Tests.{both, both-left, both-right, true-false, nor, Clear}
+use Rattle.laws.proofs.Tests.{both, both-left, both-right, true-false, Clear}
 use Rattle.laws.proofs.Filters.{found, found-passes, find-keep}
 use Rattle.laws.proofs.Tables.{all-at}
 use Rattle.rules.specs.declared.Guest.{Guest}
@@ -31,7 +31,8 @@ use Rattle.rules.specs.Sound.{sound, recordGood, inRange}
 use Rattle.rules.specs.Device.{access-by, Reply, rule, caller, owns, is, step}
 use Rattle.rules.specs.Claims.{Permitting, attachedTo, GoesTo}
 use Rattle.rules.proofs.Records.{mine, key-guest}
-use Rattle.rules.proofs.Parts.{record-form, outside-high}
+use Rattle.rules.proofs.Parts.{record-form}
+use Rattle.rules.proofs.Chains.{outside-high, formed}
 use Rattle.rules.proofs.Groups.{good-facts, Facts}
 use Rattle.rules.proofs.Worlds.{Whole, caller-below, step-mine}
 use Rattle.rules.proofs.Reading.{sound-whole}
@@ -96,13 +97,10 @@ found-place q z (x ∷ l) r e = go (q x) e (λ k. found-place q z l r k)
 -- THE WINDOW
 
 lands : (o : Own) (key : ℕ) (x : Access) (r : Mapping) → Clear (formSteps o r) → permits key x r ≡ true → (o .first ≤ x .address - r .start + r .phys) × (x .address - r .start + r .phys ≤ o .last)
-unfolding formSteps
 lands o key x r c p =
     let v = permits-covers key x r p in
-    let s = nor _ _ (c .1 .1 .1 .1 .0) in
-    let a = outside-high _ _ _ (s .0) in
-    let b = outside-high _ _ _ (s .1) in
-    (omega (arith, a, b, v .from, v .to), omega (arith, a, b, v .from, v .to))
+    let f = formed o r c in
+    (omega (arith, f .phys-within, f .phys-end-within, v .from, v .to), omega (arith, f .phys-within, f .phys-end-within, v .from, v .to))
 
 pub access-lands : (o : Own) (p : Part) (x : Access) → Facts o p → number (access o p x .0) ≡ 0 → (o .first ≤ addressOf (access o p x .0)) × (addressOf (access o p x .0) ≤ o .last)
 unfolding access

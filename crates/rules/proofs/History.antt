@@ -7,7 +7,7 @@ use mathlib.Core.Option.{Option, some, none}
 use native.Mathlib.Omega.{arith}
 use lib.Dec.{eqb}
 use lib.ListN.{length}
-use borrow.Author.Tests.{eqb-true, not-true}
+use borrow.Author.Tests.{eqb-true}
 use Rattle.laws.specs.Lists.{keep, firstFailing}
 use Rattle.laws.specs.Runs.{after}
 use Rattle.laws.proofs.Tests.{failing-among}
@@ -22,10 +22,9 @@ use Rattle.rules.specs.Configuration.{Config}
 use Rattle.rules.specs.Table.{keyOf, insertMapping}
 use Rattle.rules.specs.State.{Attachment, World, Device, read, write}
 use Rattle.rules.specs.Guests.{Own, Part, own, part, withRecords}
-use Rattle.rules.specs.Requests.{OK, ATTACH, DETACH, MAP, requestRefusals, typeOf, domainField, endpointField, attachReserved, virtStart, virtEnd, unmapReserved}
-use Rattle.rules.specs.Handlers.{settle, isIn, attachmentOf, without, leave, enter, moveFrom, attached, attachSteps, handleAttach, detachSteps, handleDetach, formSteps, mapSteps, handleMap, inside, unmapSteps, handleUnmap, askedFor, handle}
+use Rattle.rules.specs.Requests.{OK, ATTACH, DETACH, MAP, requestRefusals, typeOf, domainField, endpointField, attachReserved, virtStart, virtEnd, unmapReserved, DEVERR, UNMAP}
+use Rattle.rules.specs.Handlers.{settle, isIn, attachmentOf, without, leave, enter, moveFrom, attached, attachSteps, handleAttach, detachSteps, handleDetach, mapSteps, handleMap, inside, unmapSteps, handleUnmap, askedFor, handle, statusOf}
 use Rattle.rules.specs.Access.{findMapping, blocked, translated, decided, access, afterReset}
-use Rattle.rules.specs.Sound.{passes}
 use Rattle.rules.specs.Device.{Job, request, reset, fetch, Call, of-guest, access-by, Reply, requested, jobRule, rule, owns, step}
 use Rattle.rules.specs.History.{goneWithDomain, goneByMove, goneByRequest, goneByJob, gone, takenAway, mappedByJob, mapped, Tally, counted, history}
 use Rattle.rules.proofs.Records.{length-insert}
@@ -41,19 +40,26 @@ none-kept : (l : List Mapping) → keep (λ r. false) l ≡ []
 none-kept [] = refl
 none-kept (r ∷ l) = none-kept l
 
--- what a request leaves, by whether a step fails
-settled : (P : Bool → Part → Type 0) (v : Option ℕ) (p q : Part) → P true q → P false p → P (passes v) (settle v p q .1)
+-- what a request leaves, by whether its status is OK
+settled : (P : Bool → Part → Type 0) (s : ℕ) (p q : Part) → P true q → P false p → P (eqb (settle s p q .0) OK) (settle s p q .1)
 unfolding settle
-settled P none p q a b = a
-settled P (some s) p q a b = b
+settled P s p q a b = go (eqb s OK)
+  where
+    go : (t : Bool) → P t (cond t q p)
+    go true = a
+    go false = b
+
+both-false : (t : Bool) → (t && false) ≡ false
+both-false true = refl
+both-false false = refl
 
 -- RECORDS LEFT, BY THE REQUEST'S TYPE
 
 module _ (o : Own) (p : Part) where
-  attach-left : (e : Endpoint) (d : Domain) (z : ℕ) → handleAttach o p d e z .1 .records ≡ keep (λ r. not (passes (firstFailing (attachSteps o d e z)) && goneByMove o p e d (attachmentOf e (o .endpoints) (p .attachments)) r)) (p .records)
+  attach-left : (e : Endpoint) (d : Domain) (z : ℕ) → handleAttach o p d e z .1 .records ≡ keep (λ r. not (eqb (handleAttach o p d e z .0) OK && goneByMove o p e d (attachmentOf e (o .endpoints) (p .attachments)) r)) (p .records)
   unfolding handleAttach
   attach-left e d z =
-      settled (λ b q. q .records ≡ keep (λ r. not (b && goneByMove o p e d a r)) (p .records)) (firstFailing (attachSteps o d e z)) p (attached o e d p)
+      settled (λ b q. q .records ≡ keep (λ r. not (b && goneByMove o p e d a r)) (p .records)) (statusOf (attachSteps o d e z)) p (attached o e d p)
       (unfold attached in go a) (sym (all-kept (p .records)))
     where
       a : Attachment
@@ -67,21 +73,21 @@ module _ (o : Own) (p : Part) where
       go none = unfold isIn moveFrom enter in sym (all-kept (p .records))
       go (some was) = unfold moveFrom in moved was (isIn d (some was)) refl
 
-  detach-left : (e : Endpoint) (d : Domain) (z : ℕ) → handleDetach o p d e z .1 .records ≡ keep (λ r. not (passes (firstFailing (detachSteps o p d e z)) && goneWithDomain o p e d r)) (p .records)
+  detach-left : (e : Endpoint) (d : Domain) (z : ℕ) → handleDetach o p d e z .1 .records ≡ keep (λ r. not (eqb (handleDetach o p d e z .0) OK && goneWithDomain o p e d r)) (p .records)
   unfolding handleDetach
   detach-left e d z =
-      settled (λ b q. q .records ≡ keep (λ r. not (b && goneWithDomain o p e d r)) (p .records)) (firstFailing (detachSteps o p d e z)) p (leave o e d p)
+      settled (λ b q. q .records ≡ keep (λ r. not (b && goneWithDomain o p e d r)) (p .records)) (statusOf (detachSteps o p d e z)) p (leave o e d p)
       (unfold leave without in refl) (sym (all-kept (p .records)))
 
-  unmap-left : (d : Domain) (a b z : ℕ) → handleUnmap o p d a b z .1 .records ≡ keep (λ r. not (passes (firstFailing (unmapSteps o p d a b z)) && inside (keyOf (o .guest) d) a b r)) (p .records)
+  unmap-left : (d : Domain) (a b z : ℕ) → handleUnmap o p d a b z .1 .records ≡ keep (λ r. not (eqb (handleUnmap o p d a b z .0) OK && inside (keyOf (o .guest) d) a b r)) (p .records)
   unfolding handleUnmap
   unmap-left d a b z =
-      settled (λ t q. q .records ≡ keep (λ r. not (t && inside (keyOf (o .guest) d) a b r)) (p .records)) (firstFailing (unmapSteps o p d a b z)) p _
+      settled (λ t q. q .records ≡ keep (λ r. not (t && inside (keyOf (o .guest) d) a b r)) (p .records)) (statusOf (unmapSteps o p d a b z)) p _
       (unfold without in refl) (sym (all-kept (p .records)))
 
   handle-left : (q : List ℕ) → eqb (typeOf q) MAP ≡ false → handle o p q .1 .records ≡ keep (λ r. not (goneByRequest o p q r)) (p .records)
   unfolding handle goneByRequest
-  handle-left q m = rw m (go (eqb (typeOf q) ATTACH) (eqb (typeOf q) DETACH))
+  handle-left q m = rw m (go (eqb (typeOf q) ATTACH) (eqb (typeOf q) DETACH) (eqb (typeOf q) UNMAP))
     where
       d : Domain
       d = domainField q
@@ -89,14 +95,16 @@ module _ (o : Own) (p : Part) where
       e : Endpoint
       e = endpointField q
 
-      go : (t u : Bool)
-          → cond t (handleAttach o p d e (attachReserved q)) (cond u (handleDetach o p d e (attachReserved q)) (handleUnmap o p d (virtStart q) (virtEnd q) (unmapReserved q))) .1 .records
-          ≡ keep (λ r. not (cond t (passes (firstFailing (attachSteps o d e (attachReserved q))) && goneByMove o p e d (attachmentOf e (o .endpoints) (p .attachments)) r)
-          (cond u (passes (firstFailing (detachSteps o p d e (attachReserved q))) && goneWithDomain o p e d r)
-          (passes (firstFailing (unmapSteps o p d (virtStart q) (virtEnd q) (unmapReserved q))) && inside (keyOf (o .guest) d) (virtStart q) (virtEnd q) r)))) (p .records)
-      go true u = attach-left e d (attachReserved q)
-      go false true = detach-left e d (attachReserved q)
-      go false false = unmap-left d (virtStart q) (virtEnd q) (unmapReserved q)
+      by : Bool → Bool → Bool → ℕ × Part
+      by t u v = cond t (handleAttach o p d e (attachReserved q)) (cond u (handleDetach o p d e (attachReserved q)) (cond v (handleUnmap o p d (virtStart q) (virtEnd q) (unmapReserved q)) (DEVERR, p)))
+
+      go : (t u v : Bool) → by t u v .1 .records
+          ≡ keep (λ r. not (eqb (by t u v .0) OK && cond t (goneByMove o p e d (attachmentOf e (o .endpoints) (p .attachments)) r)
+          (cond u (goneWithDomain o p e d r) (cond v (inside (keyOf (o .guest) d) (virtStart q) (virtEnd q) r) false)))) (p .records)
+      go true u v = attach-left e d (attachReserved q)
+      go false true v = detach-left e d (attachReserved q)
+      go false false true = unmap-left d (virtStart q) (virtEnd q) (unmapReserved q)
+      go false false false = sym (all-kept (p .records))
 
   access-left : (x : Access) → access o p x .1 .records ≡ p .records
   unfolding access
@@ -115,21 +123,16 @@ module _ (o : Own) (p : Part) where
   plain : (x : Call) → rule o p x .1 .records ≡ keep (λ r. not (gone o p x r)) (p .records) → mapped x (rule o p x .0) ≡ false → length (rule o p x .1 .records) + takenAway o p x ≡ length (p .records) + cond (mapped x (rule o p x .0)) 1 0
   plain x left off = unfold takenAway in (rw (left, off) (omega (arith, split (gone o p x) (p .records))))
 
-  no-map-status : (d : Domain) (r : Mapping) (s : ℕ) → firstFailing (mapSteps o p d r) ≡ some s → eqb s 0 ≡ false
-  no-map-status d r s e = not-true (eqb s 0) (failing-among (λ n. not (eqb n 0)) (mapSteps o p d r) s e (unfold formSteps in refl))
-
   map-balance : (d : Domain) (r : Mapping) → length (handleMap o p d r .1 .records) ≡ length (p .records) + cond (eqb (handleMap o p d r .0) OK) 1 0
   unfolding handleMap
-  map-balance d r = go (firstFailing (mapSteps o p d r)) refl
-    where
-      go : (v : Option ℕ) → firstFailing (mapSteps o p d r) ≡ v → length (settle v p (withRecords (insertMapping r (p .records)) p) .1 .records) ≡ length (p .records) + cond (eqb (settle v p (withRecords (insertMapping r (p .records)) p) .0) OK) 1 0
-      go none e = unfold settle in omega (arith, length-insert r (p .records))
-      go (some s) e = unfold settle in (rw (no-map-status d r s e) (omega arith))
+  map-balance d r =
+      settled (λ t q. length (q .records) ≡ length (p .records) + cond t 1 0) (statusOf (mapSteps o p d r)) p (withRecords (insertMapping r (p .records)) p)
+      (omega (arith, length-insert r (p .records))) (omega arith)
 
   -- a MAP takes no record away
   map-stays : (g : Guest) (q w : List ℕ) → firstFailing (requestRefusals q (length w)) ≡ none → typeOf q ≡ MAP → (r : Mapping) → gone o p (of-guest g (request q w)) r ≡ false
   unfolding gone goneByJob goneByRequest
-  map-stays g q w e three r = rw (e, three)
+  map-stays g q w e three r = rw (e, three) (both-false (eqb (handle o p q .0) OK))
 
   mapped-balance : (g : Guest) (q w : List ℕ) → firstFailing (requestRefusals q (length w)) ≡ none → typeOf q ≡ MAP → keep (gone o p (of-guest g (request q w))) (p .records) ≡ []
       → length (rule o p (of-guest g (request q w)) .1 .records) + takenAway o p (of-guest g (request q w)) ≡ length (p .records) + cond (mapped (of-guest g (request q w)) (rule o p (of-guest g (request q w)) .0)) 1 0
@@ -150,10 +153,6 @@ module _ (o : Own) (p : Part) where
   refused-balance g q w a e =
       plain (of-guest g (request q w)) (unfold rule jobRule gone goneByJob requested in (rw e (sym (all-kept (p .records)))))
       (unfold rule jobRule mapped mappedByJob requested in (rw e (both-false (eqb (typeOf q) MAP))))
-    where
-      both-false : (t : Bool) → (t && false) ≡ false
-      both-false true = refl
-      both-false false = refl
 
   request-balance : (g : Guest) (q w : List ℕ) (m : Option Refusal) → firstFailing (requestRefusals q (length w)) ≡ m
       → length (rule o p (of-guest g (request q w)) .1 .records) + takenAway o p (of-guest g (request q w)) ≡ length (p .records) + cond (mapped (of-guest g (request q w)) (rule o p (of-guest g (request q w)) .0)) 1 0

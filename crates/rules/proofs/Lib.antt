@@ -1,5 +1,6 @@
 pub mod Records
 pub mod Attachments
+pub mod Chains
 pub mod Groups
 pub mod Parts
 pub mod Worlds

@@ -8,9 +8,9 @@ use native.Mathlib.Nat.{le-trans}
 use native.Mathlib.Omega.{arith}
 use lib.Dec.{ltb, eqb}
 use lib.ListN.{length, replicate, length-append, length-drop, length-replicate}
-use borrow.Author.Tests.{ltb-true, ltb-false, leb-false, eqb-true, eq-eqb, lt-ltb, not-true, not-false}
+use borrow.Author.Tests.{ltb-true, eqb-true, eq-eqb, lt-ltb, not-true}
 use Rattle.laws.specs.Lists.{all?, any?, keep, firstFailing}
-use Rattle.laws.proofs.Tests.{either-way, both, both-left, both-right, true-false, nor, Clear, cleared, passed, clear-left, clear-right}
+use Rattle.laws.proofs.Tests.{either-way, both, both-left, both-right, true-false, Clear, cleared, passed}
 use Rattle.laws.proofs.Filters.{all-imp, all-append, all-drop, all-keep, none-passes, length-keep, pairwise-keep}
 use Rattle.rules.specs.declared.Endpoint.{Endpoint}
 use Rattle.rules.specs.declared.Domain.{Domain}
@@ -24,13 +24,14 @@ use Rattle.rules.specs.Sizes.{domainSpan, maxFaults, maxLost}
 use Rattle.rules.specs.Table.{keyOf, guestOf, domainOf, before, overlap, apart, insertMapping}
 use Rattle.rules.specs.State.{Attachment, Log}
 use Rattle.rules.specs.Guests.{Own, Part, withRecords, withLog}
-use Rattle.rules.specs.Requests.{requestRefusals, typeOf, ATTACH, DETACH, MAP, domainField, endpointField, attachReserved, virtStart, virtEnd, unmapReserved}
-use Rattle.rules.specs.Handlers.{Steps, settle, outside, isIn, exists, listed, attachmentOf, attachedAs, ofKey, without, leave, enter, moveFrom, attached, attachSteps, handleAttach, detachSteps, handleDetach, formSteps, recordSteps, mapSteps, handleMap, unmapSteps, handleUnmap, askedFor, handle}
+use Rattle.rules.specs.Requests.{requestRefusals, typeOf, ATTACH, DETACH, MAP, domainField, endpointField, attachReserved, virtStart, virtEnd, unmapReserved, UNMAP}
+use Rattle.rules.specs.Handlers.{outside, isIn, exists, listed, attachmentOf, attachedAs, ofKey, without, leave, enter, moveFrom, attached, attachSteps, handleAttach, detachSteps, handleDetach, formSteps, recordSteps, mapSteps, handleMap, unmapSteps, handleUnmap, askedFor, handle}
 use Rattle.rules.specs.Access.{logged, reasonOf, faultOf, blocked, translated, findMapping, decided, access, afterReset, fetchable, fetchedFrom}
 use Rattle.rules.specs.Sound.{passes, faultGood, recordGood, inRange}
 use Rattle.rules.specs.Device.{Job, request, reset, fetch, Call, of-guest, access-by, requested, jobRule, rule}
 use Rattle.rules.proofs.Records.{key-guest, key-domain, key-back, wide, mine, all-insert, length-insert, insert-ordered, insert-apart}
 use Rattle.rules.proofs.Groups.{LogFacts, Facts}
+use Rattle.rules.proofs.Chains.{settle-keeps, outside-high, attaches, detaches, formed, recorded, Maps, maps}
 use Rattle.rules.proofs.Attachments.{length-attachedAs, all-attachedAs, exists-attachedAs, detached, in-one, all-none}
 
 -- LOGS
@@ -54,32 +55,23 @@ pub passes-none : {A : Type 0} (m : Option A) → passes m ≡ true → m ≡ no
 passes-none none h = refl
 passes-none (some a) h = absurd (let z : _≡_ {A = ℕ} 0 1 = cc in omega arith)
 
--- what a request leaves, where its steps are clear
-pub settle-keeps : (P : Part → Type 0) (l : Steps) (p q : Part) → P p → (Clear l → P q) → P (settle (firstFailing l) p q .1)
-unfolding settle
-settle-keeps P l p q hp hq = go (firstFailing l) refl
-  where
-    go : (v : Option ℕ) → firstFailing l ≡ v → P (settle v p q .1)
-    go none e = hq (cleared l e)
-    go (some s) e = hp
-
 -- RECORDS
 
 pub record-exists : (o : Own) (l : List Attachment) (r : Mapping) → recordGood o l r ≡ true → exists (domainOf r) l ≡ true
 unfolding recordGood
-record-exists o l r h = not-false _ (cleared (recordSteps o l (domainOf r) r) (passes-none _ h) .0)
+record-exists o l r h = recorded o l (domainOf r) r (cleared (recordSteps o l (domainOf r) r) (passes-none _ h)) .there
 
 pub record-form : (o : Own) (l : List Attachment) (r : Mapping) → recordGood o l r ≡ true → Clear (formSteps o r)
 unfolding recordGood
-record-form o l r h = cleared (recordSteps o l (domainOf r) r) (passes-none _ h) .1
+record-form o l r h = recorded o l (domainOf r) r (cleared (recordSteps o l (domainOf r) r) (passes-none _ h)) .form
 
 pub record-ok : (o : Own) (l : List Attachment) (r : Mapping) → exists (domainOf r) l ≡ true → Clear (formSteps o r) → recordGood o l r ≡ true
 unfolding recordGood
 record-ok o l r h f = rw (passed (recordSteps o l (domainOf r) r) (rw h, f))
 
 pub form-wide : (o : Own) (r : Mapping) → Clear (formSteps o r) → wide r ≡ true
-unfolding formSteps wide
-form-wide o r c = let e = c .1 .0 in lt-ltb (r .start) (r .end) (omega (arith, leb-false))
+unfolding wide
+form-wide o r c = lt-ltb (r .start) (r .end) (formed o r c .wide)
 
 pub record-wide : (o : Own) (l : List Attachment) (r : Mapping) → recordGood o l r ≡ true → wide r ≡ true
 record-wide o l r g = form-wide o r (record-form o l r g)
@@ -98,10 +90,6 @@ in-range o d (b ∷ l) h a = go (isIn d b) refl h (λ k. in-range o d l k (both-
     go : (t : Bool) → isIn d b ≡ t → (t || any? (isIn d) l) ≡ true → (any? (isIn d) l ≡ true → outside (o .domains .start) (o .domains .end) (d .0) ≡ false) → outside (o .domains .start) (o .domains .end) (d .0) ≡ false
     go true e h i = at b e (both-left (inRange o b) (all? (inRange o) l) a)
     go false e h i = i h
-
-pub outside-high : (a b x : ℕ) → outside a b x ≡ false → (a ≤ x) × (x ≤ b)
-unfolding outside
-outside-high a b x h = (ltb-false x a (nor (ltb x a) (ltb b x) h .0), ltb-false b x (nor (ltb x a) (ltb b x) h .1))
 
 -- the record of domain d has the key of d
 key-of : (o : Own) (d : Domain) (r : Mapping) → mine (o .guest) r ≡ true → eqb (domainOf r .0) (d .0) ≡ true → r .key ≡ keyOf (o .guest) d
@@ -203,25 +191,24 @@ attached-facts o p e d r f = either-way (Facts o) (isIn d a) (λ _. f) (λ _. go
 
 pub map-facts : (o : Own) (p : Part) (d : Domain) (r : Mapping) → r .key ≡ keyOf (o .guest) d → Facts o p → Facts o (handleMap o p d r .1)
 unfolding handleMap
-map-facts o p d r k f = settle-keeps (Facts o) (mapSteps o p d r) p (withRecords (insertMapping r (p .records)) p) f go
+map-facts o p d r k f = settle-keeps (Facts o) (mapSteps o p d r) p (withRecords (insertMapping r (p .records)) p) (unfold formSteps in refl) f (λ c. go (maps o p d r c))
   where
-    go : Clear (mapSteps o p d r) → Facts o (withRecords (insertMapping r (p .records)) p)
-    go c =
-        let lo = clear-left (recordSteps o (p .attachments) d r) _ c in
-        let hi = clear-right (recordSteps o (p .attachments) d r) _ c in
-        let ex = not-false (exists d (p .attachments)) (lo .0) in
+    go : Maps o p d r → Facts o (withRecords (insertMapping r (p .records)) p)
+    go m =
+        let ex = m .early .there in
+        let form = m .early .form in
         let small : d .0 < domainSpan = omega (arith, outside-high _ _ _ (in-range o d (p .attachments) ex (f .attachments)), f .narrow) in
         let dom = key-of-domain o d r small k in
-        let free = none-passes (overlap r) (p .records) (hi .0) in
+        let free = none-passes (overlap r) (p .records) (m .free) in
         record {
           narrow = f .narrow;
           size = f .size;
           attachments = f .attachments;
           own = all-insert (mine (o .guest)) r (p .records) (key-mine o d r small k) (f .own);
-          records = all-insert (recordGood o (p .attachments)) r (p .records) (record-ok o (p .attachments) r (rw dom ex) (lo .1)) (f .records);
-          order = insert-ordered r (p .records) (form-wide o r (lo .1)) (all-imp (recordGood o (p .attachments)) wide (p .records) (λ x g. record-wide o (p .attachments) x g) (f .records)) free (f .order);
+          records = all-insert (recordGood o (p .attachments)) r (p .records) (record-ok o (p .attachments) r (rw dom ex) form) (f .records);
+          order = insert-ordered r (p .records) (form-wide o r form) (all-imp (recordGood o (p .attachments)) wide (p .records) (λ x g. record-wide o (p .attachments) x g) (f .records)) free (f .order);
           disjoint = insert-apart r (p .records) free (f .disjoint);
-          share = rw (length-insert r (p .records)) (let full = hi .1 .0 in omega (arith, leb-false));
+          share = rw (length-insert r (p .records)) (omega (arith, m .room));
           log = f .log;
         }
 
@@ -229,12 +216,14 @@ pub handle-facts : (o : Own) (p : Part) (r : List ℕ) → Facts o p → Facts o
 unfolding handle handleAttach handleDetach handleUnmap
 handle-facts o p r f =
     either-way (λ (t : ℕ × Part). Facts o (t .1)) (eqb (typeOf r) ATTACH)
-    (λ _. settle-keeps (Facts o) (attachSteps o d e (attachReserved r)) p _ f (λ c. attached-facts o p e d (c .1 .1 .0) f))
+    (λ _. settle-keeps (Facts o) (attachSteps o d e (attachReserved r)) p _ refl f (λ c. attached-facts o p e d (attaches o d e (attachReserved r) c .within) f))
     (λ _. either-way (λ (t : ℕ × Part). Facts o (t .1)) (eqb (typeOf r) DETACH)
-    (λ _. settle-keeps (Facts o) (detachSteps o p d e (attachReserved r)) p _ f (λ c. leave-facts o p e d (not-false _ (c .1 .1 .0)) f))
+    (λ _. settle-keeps (Facts o) (detachSteps o p d e (attachReserved r)) p _ refl f (λ c. leave-facts o p e d (detaches o p d e (attachReserved r) c .here) f))
     (λ _. either-way (λ (t : ℕ × Part). Facts o (t .1)) (eqb (typeOf r) MAP)
     (λ _. map-facts o p d (askedFor o r) refl f)
-    (λ _. settle-keeps (Facts o) (unmapSteps o p d (virtStart r) (virtEnd r) (unmapReserved r)) p _ f (λ c. without-keeps o p _ f))))
+    (λ _. either-way (λ (t : ℕ × Part). Facts o (t .1)) (eqb (typeOf r) UNMAP)
+    (λ _. settle-keeps (Facts o) (unmapSteps o p d (virtStart r) (virtEnd r) (unmapReserved r)) p _ refl f (λ c. without-keeps o p _ f))
+    (λ _. f))))
   where
     d : Domain
     d = domainField r

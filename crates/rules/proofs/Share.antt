@@ -22,8 +22,8 @@ use Rattle.rules.specs.Configuration.{Config, share}
 use Rattle.rules.specs.Table.{keyOf, overlap}
 use Rattle.rules.specs.State.{Attachment, World, Device, configOf, read}
 use Rattle.rules.specs.Guests.{Own, Part, own, part, recordsOf, withRecords}
-use Rattle.rules.specs.Requests.{INVAL, NOMEM, ATTACH, DETACH, MAP, requestRefusals, typeOf, domainField, endpointField, attachReserved, virtStart, virtEnd, unmapReserved}
-use Rattle.rules.specs.Handlers.{Steps, settle, attached, leave, attachSteps, handleAttach, detachSteps, handleDetach, formSteps, recordSteps, mapSteps, handleMap, inside, without, unmapSteps, handleUnmap, askedFor, handle}
+use Rattle.rules.specs.Requests.{DEVERR, INVAL, NOMEM, ATTACH, DETACH, MAP, UNMAP, requestRefusals, typeOf, domainField, endpointField, attachReserved, virtStart, virtEnd, unmapReserved}
+use Rattle.rules.specs.Handlers.{Steps, orOK, statusOf, settle, attached, leave, attachSteps, handleAttach, detachSteps, handleDetach, formSteps, recordSteps, mapSteps, handleMap, inside, without, unmapSteps, handleUnmap, askedFor, handle}
 use Rattle.rules.specs.Access.{translated, blocked, decided, access}
 use Rattle.rules.specs.Sound.{sound, guest}
 use Rattle.rules.specs.Device.{Job, request, reset, fetch, Call, of-guest, access-by, Reply, refusedWith, requested, jobRule, rule, caller, numbered, work, step}
@@ -34,15 +34,16 @@ use Rattle.rules.proofs.Reading.{sound-whole}
 use Rattle.rules.proofs.Steps.{reply-of}
 
 -- a status that is not OK is that of the first failing step
-settled-by : (l : Steps) (p q : Part) (s : ℕ) → 0 < s → settle (firstFailing l) p q .0 ≡ s → firstFailing l ≡ some s
-settled-by l p q s h e = go (firstFailing l) e
+settled-by : (l : Steps) (p q : Part) (s : ℕ) → 0 < s → settle (statusOf l) p q .0 ≡ s → firstFailing l ≡ some s
+unfolding settle
+settled-by l p q s h = go (firstFailing l)
   where
-    go : (v : Option ℕ) → settle v p q .0 ≡ s → v ≡ some s
-    go none e = unfold settle in absurd (omega (arith, e))
-    go (some t) e = unfold settle in ap (λ n. some n) e
+    go : (v : Option ℕ) → orOK v ≡ s → v ≡ some s
+    go none e = absurd (omega (arith, e))
+    go (some t) e = ap (λ n. some n) e
 
 -- steps none of which answers NOMEM
-never-nomem : (l : Steps) (p q : Part) → all? (λ s. not (eqb (s .1) NOMEM)) l ≡ true → settle (firstFailing l) p q .0 ≡ NOMEM → ⊥
+never-nomem : (l : Steps) (p q : Part) → all? (λ s. not (eqb (s .1) NOMEM)) l ≡ true → settle (statusOf l) p q .0 ≡ NOMEM → ⊥
 never-nomem l p q h e = true-false {P = ⊥} (not (eqb NOMEM NOMEM)) (failing-among (λ n. not (eqb n NOMEM)) l NOMEM (settled-by l p q NOMEM (omega arith) e) h) refl
 
 map-nomem : (o : Own) (p : Part) (d : Domain) (r : Mapping) → handleMap o p d r .0 ≡ NOMEM → o .share ≤ length (p .records)
@@ -59,7 +60,7 @@ map-nomem o p d r e = go (any? (overlap r) (p .records)) (leb (o .share) (length
 
 handle-nomem : (o : Own) (p : Part) (r : List ℕ) → handle o p r .0 ≡ NOMEM → o .share ≤ length (p .records)
 unfolding handle
-handle-nomem o p r = go (eqb (typeOf r) ATTACH) (eqb (typeOf r) DETACH) (eqb (typeOf r) MAP)
+handle-nomem o p r = go (eqb (typeOf r) ATTACH) (eqb (typeOf r) DETACH) (eqb (typeOf r) MAP) (eqb (typeOf r) UNMAP)
   where
     d : Domain
     d = domainField r
@@ -67,13 +68,14 @@ handle-nomem o p r = go (eqb (typeOf r) ATTACH) (eqb (typeOf r) DETACH) (eqb (ty
     e : Endpoint
     e = endpointField r
 
-    go : (t u v : Bool)
-        → cond t (handleAttach o p d e (attachReserved r)) (cond u (handleDetach o p d e (attachReserved r)) (cond v (handleMap o p d (askedFor o r)) (handleUnmap o p d (virtStart r) (virtEnd r) (unmapReserved r)))) .0 ≡ NOMEM
+    go : (t u v w : Bool)
+        → cond t (handleAttach o p d e (attachReserved r)) (cond u (handleDetach o p d e (attachReserved r)) (cond v (handleMap o p d (askedFor o r)) (cond w (handleUnmap o p d (virtStart r) (virtEnd r) (unmapReserved r)) (DEVERR, p)))) .0 ≡ NOMEM
         → o .share ≤ length (p .records)
-    go true u v i = absurd (never-nomem (attachSteps o d e (attachReserved r)) p (attached o e d p) refl (unfold handleAttach in i))
-    go false true v i = absurd (never-nomem (detachSteps o p d e (attachReserved r)) p (leave o e d p) refl (unfold handleDetach in i))
-    go false false true i = map-nomem o p d (askedFor o r) i
-    go false false false i = absurd (never-nomem (unmapSteps o p d (virtStart r) (virtEnd r) (unmapReserved r)) p (withRecords (without (inside (keyOf (o .guest) d) (virtStart r) (virtEnd r)) (p .records)) p) refl (unfold handleUnmap in i))
+    go true u v w i = absurd (never-nomem (attachSteps o d e (attachReserved r)) p (attached o e d p) refl (unfold handleAttach in i))
+    go false true v w i = absurd (never-nomem (detachSteps o p d e (attachReserved r)) p (leave o e d p) refl (unfold handleDetach in i))
+    go false false true w i = map-nomem o p d (askedFor o r) i
+    go false false false true i = absurd (never-nomem (unmapSteps o p d (virtStart r) (virtEnd r) (unmapReserved r)) p (withRecords (without (inside (keyOf (o .guest) d) (virtStart r) (virtEnd r)) (p .records)) p) refl (unfold handleUnmap in i))
+    go false false false false i = absurd (omega (arith, i))
 
 request-nomem : (o : Own) (p : Part) (r w : List ℕ) (m : Option Refusal) → firstFailing (requestRefusals r (length w)) ≡ m → usedLength (requested o p r w m .0 .answer) ≡ 4 → getD (requested o p r w m .0 .buffer) 0 0 ≡ NOMEM → o .share ≤ length (p .records)
 unfolding requested

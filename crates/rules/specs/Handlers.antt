@@ -13,16 +13,28 @@ use Rattle.rules.specs.declared.Mapping.{Mapping}
 use Rattle.rules.specs.Table.{keyOf, mapping, overlap, insertMapping}
 use Rattle.rules.specs.State.{Attachment}
 use Rattle.rules.specs.Guests.{Own, Part, withAttachments, withRecords}
-use Rattle.rules.specs.Requests.{OK, INVAL, RANGE, NOENT, FAULT, NOMEM, ATTACH, DETACH, MAP, typeOf, domainField, endpointField, attachReserved, virtStart, virtEnd, physStart, mapFlags, unmapReserved}
+use Rattle.rules.specs.Requests.{OK, DEVERR, INVAL, RANGE, NOENT, FAULT, NOMEM, ATTACH, DETACH, MAP, UNMAP, typeOf, domainField, endpointField, attachReserved, virtStart, virtEnd, physStart, mapFlags, unmapReserved}
+
+-- STEPS AND STATUSES
 
 -- a request's steps: each a test that fails the request, and the status that it then gets
 abbrev pub Steps : Type 0
 Steps = List (Bool × ℕ)
 
--- "Any status but OK changes nothing": p as it is and OK's q, by the first step that fails
-unfoldable pub settle : Option ℕ → Part → Part → ℕ × Part
-settle none p q = (OK, q)
-settle (some s) p q = (s, p)
+-- the status of a step that fails, OK where none does
+abbrev pub orOK : Option ℕ → ℕ
+orOK none = OK
+orOK (some s) = s
+
+-- "first failing step wins"
+abbrev pub statusOf : Steps → ℕ
+statusOf l = orOK (firstFailing l)
+
+-- "Any status but OK changes nothing": the status, with q where it is OK, else with p
+unfoldable pub settle : ℕ → Part → Part → ℕ × Part
+settle s p q = (s, cond (eqb s OK) q p)
+
+-- DOMAINS AND ENDPOINTS
 
 -- x lies outside the addresses, or numbers, from a to b
 unfoldable pub outside : ℕ → ℕ → ℕ → Bool
@@ -64,11 +76,8 @@ without q l = keep (λ r. not (q r)) l
 -- endpoint e leaves domain d; "When the last endpoint leaves a domain, all its records go."
 unfoldable pub leave : Own → Endpoint → Domain → Part → Part
 leave o e d p =
-    record {
-      attachments = attachedAs e none (o .endpoints) (p .attachments);
-      records = without (λ r. not (exists d (attachedAs e none (o .endpoints) (p .attachments))) && ofKey (keyOf (o .guest) d) r) (p .records);
-      log = p .log;
-    }
+    withAttachments (attachedAs e none (o .endpoints) (p .attachments))
+    (withRecords (without (λ r. not (exists d (attachedAs e none (o .endpoints) (p .attachments))) && ofKey (keyOf (o .guest) d) r) (p .records)) p)
 
 unfoldable pub enter : Own → Endpoint → Domain → Part → Part
 enter o e d p = withAttachments (attachedAs e (some d) (o .endpoints) (p .attachments)) p
@@ -84,68 +93,121 @@ attached o e d p =
     cond (isIn d (attachmentOf e (o .endpoints) (p .attachments))) p
     (enter o e d (moveFrom o e (attachmentOf e (o .endpoints) (p .attachments)) p))
 
+-- ATTACH
+
+-- ATTACH's chain of steps, over what their tests give
+abbrev pub attachChain : (reserved unlisted beyond : Bool) → Steps
+attachChain reserved unlisted beyond =
+    -- "reserved not zero, INVAL"
+    (reserved, INVAL)
+    -- "Endpoint not listed or not this guest's, NOENT"
+    ∷ (unlisted, NOENT)
+    -- "Domain outside the range, RANGE"
+    ∷ (beyond, RANGE)
+    ∷ []
+
+-- its tests, in order
 abbrev pub attachSteps : Own → Domain → Endpoint → ℕ → Steps
 attachSteps o d e reserved =
-    -- "reserved not zero, INVAL"
-    (not (eqb reserved 0), INVAL)
-    -- "Endpoint not listed or not this guest's, NOENT"
-    ∷ (not (listed e (o .endpoints)), NOENT)
-    -- "Domain outside the range, RANGE"
-    ∷ (outside (o .domains .start) (o .domains .end) (d .0), RANGE)
-    ∷ []
+    attachChain
+    (not (eqb reserved 0))
+    (not (listed e (o .endpoints)))
+    (outside (o .domains .start) (o .domains .end) (d .0))
 
 unfoldable pub handleAttach : Own → Part → Domain → Endpoint → ℕ → ℕ × Part
-handleAttach o p d e reserved = settle (firstFailing (attachSteps o d e reserved)) p (attached o e d p)
+handleAttach o p d e reserved = settle (statusOf (attachSteps o d e reserved)) p (attached o e d p)
 
+-- DETACH
+
+-- DETACH's chain of steps, over what their tests give
+abbrev pub detachChain : (reserved unlisted elsewhere : Bool) → Steps
+detachChain reserved unlisted elsewhere =
+    -- "reserved not zero, INVAL"
+    (reserved, INVAL)
+    -- "Endpoint as above, NOENT"
+    ∷ (unlisted, NOENT)
+    -- "Not attached to this domain, INVAL"
+    ∷ (elsewhere, INVAL)
+    ∷ []
+
+-- its tests, in order
 abbrev pub detachSteps : Own → Part → Domain → Endpoint → ℕ → Steps
 detachSteps o p d e reserved =
-    -- "reserved not zero, INVAL"
-    (not (eqb reserved 0), INVAL)
-    -- "Endpoint as above, NOENT"
-    ∷ (not (listed e (o .endpoints)), NOENT)
-    -- "Not attached to this domain, INVAL"
-    ∷ (not (isIn d (attachmentOf e (o .endpoints) (p .attachments))), INVAL)
-    ∷ []
+    detachChain
+    (not (eqb reserved 0))
+    (not (listed e (o .endpoints)))
+    (not (isIn d (attachmentOf e (o .endpoints) (p .attachments))))
 
 -- "Else detached, OK."
 unfoldable pub handleDetach : Own → Part → Domain → Endpoint → ℕ → ℕ × Part
-handleDetach o p d e reserved = settle (firstFailing (detachSteps o p d e reserved)) p (leave o e d p)
+handleDetach o p d e reserved = settle (statusOf (detachSteps o p d e reserved)) p (leave o e d p)
+
+-- MAP
 
 -- "g is the lowest set bit of page_size_mask, as a number."
 unfoldable pub granularity : ℕ → ℕ
 granularity mask = 2 ^ trailingZeros 64 mask
 
--- MAP's steps 2 to 6, which are about the record r alone
+-- the chain of MAP's steps 2 to 6, which are about a record alone, over what their tests give
+abbrev pub formChain : (flags order grain input window : Bool) → Steps
+formChain flags order grain input window =
+    -- "2. a flag bit other than READ (1) and WRITE (2): INVAL"
+    (flags, INVAL)
+    -- "3. virt_end ≤ virt_start: RANGE"
+    ∷ (order, RANGE)
+    -- "4. virt_start or virt_end + 1 not a multiple of g: RANGE"
+    ∷ (grain, RANGE)
+    -- "5. any address outside the input range: RANGE"
+    ∷ (input, RANGE)
+    -- "6. phys_start or phys_start + virt_end − virt_start outside the guest's window: FAULT"
+    ∷ (window, FAULT)
+    ∷ []
+
+-- their tests of the record r, in order
 unfoldable pub formSteps : Own → Mapping → Steps
 formSteps o r =
-    -- "2. a flag bit other than READ (1) and WRITE (2): INVAL"
-    (ltb 3 (r .flags), INVAL)
-    -- "3. virt_end ≤ virt_start: RANGE"
-    ∷ (leb (r .end) (r .start), RANGE)
-    -- "4. virt_start or virt_end + 1 not a multiple of g: RANGE"
-    ∷ (not (eqb (r .start % granularity (o .mask)) 0) || not (eqb ((r .end + 1) % granularity (o .mask)) 0), RANGE)
-    -- "5. any address outside the input range: RANGE"
-    ∷ (outside (o .input .start) (o .input .end) (r .start) || outside (o .input .start) (o .input .end) (r .end), RANGE)
-    -- "6. phys_start or phys_start + virt_end − virt_start outside the guest's window: FAULT"
-    ∷ (outside (o .first) (o .last) (r .phys) || outside (o .first) (o .last) (r .phys + r .end - r .start), FAULT)
+    formChain
+    (ltb 3 (r .flags))
+    (leb (r .end) (r .start))
+    (not (eqb (r .start % granularity (o .mask)) 0) || not (eqb ((r .end + 1) % granularity (o .mask)) 0))
+    (outside (o .input .start) (o .input .end) (r .start) || outside (o .input .start) (o .input .end) (r .end))
+    (outside (o .first) (o .last) (r .phys) || outside (o .first) (o .last) (r .phys + r .end - r .start))
+
+-- the chain of MAP's steps 1 to 6
+abbrev pub recordChain : (missing : Bool) (form : Steps) → Steps
+recordChain missing form =
+    -- "1. domain doesn't exist for this guest: NOENT"
+    (missing, NOENT)
+    ∷ form
+
+-- their tests, which soundness asks of every record too
+abbrev pub recordSteps : Own → List Attachment → Domain → Mapping → Steps
+recordSteps o l d r = recordChain (not (exists d l)) (formSteps o r)
+
+-- MAP's chain of steps, where form is that of steps 2 to 6
+abbrev pub mapChain : (missing : Bool) (form : Steps) (meets full : Bool) → Steps
+mapChain missing form meets full =
+    recordChain missing form
+    -- "7. overlaps a record of this domain: INVAL"
+    ++ (meets, INVAL)
+    -- "8. guest already holds its share: NOMEM"
+    ∷ (full, NOMEM)
     ∷ []
 
--- MAP's steps 1 to 6, which soundness asks of every record too: "1. domain doesn't exist for this guest: NOENT"
-abbrev pub recordSteps : Own → List Attachment → Domain → Mapping → Steps
-recordSteps o l d r = (not (exists d l), NOENT) ∷ formSteps o r
-
+-- its tests, in order
 abbrev pub mapSteps : Own → Part → Domain → Mapping → Steps
 mapSteps o p d r =
-    recordSteps o (p .attachments) d r
-    -- "7. overlaps a record of this domain: INVAL"
-    ++ (any? (overlap r) (p .records), INVAL)
-    -- "8. guest already holds its share: NOMEM"
-    ∷ (leb (o .share) (length (p .records)), NOMEM)
-    ∷ []
+    mapChain
+    (not (exists d (p .attachments)))
+    (formSteps o r)
+    (any? (overlap r) (p .records))
+    (leb (o .share) (length (p .records)))
 
 -- "Else recorded, OK."
 unfoldable pub handleMap : Own → Part → Domain → Mapping → ℕ × Part
-handleMap o p d r = settle (firstFailing (mapSteps o p d r)) p (withRecords (insertMapping r (p .records)) p)
+handleMap o p d r = settle (statusOf (mapSteps o p d r)) p (withRecords (insertMapping r (p .records)) p)
+
+-- UNMAP
 
 -- a record of the key's domain inside the range from a to b
 unfoldable pub inside : ℕ → ℕ → ℕ → Mapping → Bool
@@ -155,31 +217,44 @@ inside key a b r = ofKey key r && (leb a (r .start) && leb (r .end) b)
 unfoldable pub straddles : ℕ → ℕ → ℕ → Mapping → Bool
 straddles key a b r = (ofKey key r && (leb (r .start) b && leb a (r .end))) && not (inside key a b r)
 
+-- UNMAP's chain of steps, over what their tests give
+abbrev pub unmapChain : (missing reserved order cut : Bool) → Steps
+unmapChain missing reserved order cut =
+    -- "domain doesn't exist, NOENT"
+    (missing, NOENT)
+    -- "reserved not zero, INVAL"
+    ∷ (reserved, INVAL)
+    -- "virt_end < virt_start, RANGE"
+    ∷ (order, RANGE)
+    -- "some record of this guest's domain partly inside and partly outside the range, RANGE"
+    ∷ (cut, RANGE)
+    ∷ []
+
+-- its tests, in order
 abbrev pub unmapSteps : Own → Part → Domain → ℕ → ℕ → ℕ → Steps
 unmapSteps o p d a b reserved =
-    -- "domain doesn't exist, NOENT"
-    (not (exists d (p .attachments)), NOENT)
-    -- "reserved not zero, INVAL"
-    ∷ (not (eqb reserved 0), INVAL)
-    -- "virt_end < virt_start, RANGE"
-    ∷ (ltb b a, RANGE)
-    -- "some record of this guest's domain partly inside and partly outside the range, RANGE"
-    ∷ (any? (straddles (keyOf (o .guest) d) a b) (p .records), RANGE)
-    ∷ []
+    unmapChain
+    (not (exists d (p .attachments)))
+    (not (eqb reserved 0))
+    (ltb b a)
+    (any? (straddles (keyOf (o .guest) d) a b) (p .records))
 
 -- "else every record of that domain inside the range goes, OK, even if there are none"
 unfoldable pub handleUnmap : Own → Part → Domain → ℕ → ℕ → ℕ → ℕ × Part
 handleUnmap o p d a b reserved =
-    settle (firstFailing (unmapSteps o p d a b reserved)) p (withRecords (without (inside (keyOf (o .guest) d) a b) (p .records)) p)
+    settle (statusOf (unmapSteps o p d a b reserved)) p (withRecords (without (inside (keyOf (o .guest) d) a b) (p .records)) p)
+
+-- BY TYPE
 
 -- the record that a MAP request asks for
 abbrev pub askedFor : Own → List ℕ → Mapping
 askedFor o r = mapping (keyOf (o .guest) (domainField r)) (virtStart r) (virtEnd r) (physStart r) (mapFlags r)
 
--- the request in the readable part r, by its type
+-- the request in the readable part r, by its type; a request of any other type is refused before, and changes nothing here
 unfoldable pub handle : Own → Part → List ℕ → ℕ × Part
 handle o p r =
     cond (eqb (typeOf r) ATTACH) (handleAttach o p (domainField r) (endpointField r) (attachReserved r))
     (cond (eqb (typeOf r) DETACH) (handleDetach o p (domainField r) (endpointField r) (attachReserved r))
     (cond (eqb (typeOf r) MAP) (handleMap o p (domainField r) (askedFor o r))
-    (handleUnmap o p (domainField r) (virtStart r) (virtEnd r) (unmapReserved r))))
+    (cond (eqb (typeOf r) UNMAP) (handleUnmap o p (domainField r) (virtStart r) (virtEnd r) (unmapReserved r))
+    (DEVERR, p))))

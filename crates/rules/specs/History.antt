@@ -17,8 +17,8 @@ use Rattle.rules.specs.Table.{keyOf}
 use Rattle.rules.specs.State.{Attachment, Device, read}
 use Rattle.rules.specs.Guests.{Own, Part, own, part}
 use Rattle.rules.specs.Answers.{usedLength}
-use Rattle.rules.specs.Requests.{OK, ATTACH, DETACH, MAP, requestRefusals, typeOf, domainField, endpointField, attachReserved, virtStart, virtEnd, unmapReserved}
-use Rattle.rules.specs.Handlers.{isIn, exists, attachmentOf, attachedAs, ofKey, attachSteps, detachSteps, inside, unmapSteps}
+use Rattle.rules.specs.Requests.{OK, ATTACH, DETACH, MAP, UNMAP, requestRefusals, typeOf, domainField, endpointField, virtStart, virtEnd}
+use Rattle.rules.specs.Handlers.{isIn, exists, attachmentOf, attachedAs, ofKey, inside, handle}
 use Rattle.rules.specs.Sound.{passes}
 use Rattle.rules.specs.Device.{Job, request, reset, fetch, Call, of-guest, access-by, Reply, owns, step}
 
@@ -31,18 +31,15 @@ abbrev pub goneByMove : Own → Part → Endpoint → Domain → Attachment → 
 goneByMove o p e d none r = false
 goneByMove o p e d (some was) r = not (isIn d (some was)) && goneWithDomain o p e was r
 
--- a request that is handled takes the record away, by its type
+-- a request that is answered OK takes the record away, by its type
 unfoldable pub goneByRequest : Own → Part → List ℕ → Mapping → Bool
 goneByRequest o p q r =
-    cond (eqb (typeOf q) ATTACH)
-    (passes (firstFailing (attachSteps o (domainField q) (endpointField q) (attachReserved q)))
-    && goneByMove o p (endpointField q) (domainField q) (attachmentOf (endpointField q) (o .endpoints) (p .attachments)) r)
-    (cond (eqb (typeOf q) DETACH)
-    (passes (firstFailing (detachSteps o p (domainField q) (endpointField q) (attachReserved q)))
-    && goneWithDomain o p (endpointField q) (domainField q) r)
+    eqb (handle o p q .0) OK
+    && cond (eqb (typeOf q) ATTACH) (goneByMove o p (endpointField q) (domainField q) (attachmentOf (endpointField q) (o .endpoints) (p .attachments)) r)
+    (cond (eqb (typeOf q) DETACH) (goneWithDomain o p (endpointField q) (domainField q) r)
     (cond (eqb (typeOf q) MAP) false
-    (passes (firstFailing (unmapSteps o p (domainField q) (virtStart q) (virtEnd q) (unmapReserved q)))
-    && inside (keyOf (o .guest) (domainField q)) (virtStart q) (virtEnd q) r)))
+    (cond (eqb (typeOf q) UNMAP) (inside (keyOf (o .guest) (domainField q)) (virtStart q) (virtEnd q) r)
+    false)))
 
 -- a guest's job takes the record away
 unfoldable pub goneByJob : Own → Part → Job → Mapping → Bool

@@ -1,5 +1,5 @@
 -- The sizes of document 01, each named once for the definitions, as src/sizes.rt names them for the code.
-use Prim.Native.Nat.{ℕ, _*_, _^_}
+use Prim.Native.Nat.{ℕ, _-_, _*_, _^_}
 
 -- "one to four guests"
 abbrev pub maxGuests : ℕ
@@ -43,3 +43,7 @@ statusSize = 4
 -- the 2^32 of "guest × 2^32 + domain"
 abbrev pub domainSpan : ℕ
 domainSpan = 2 ^ 32
+
+-- the last address there is: addresses have 64 bits
+abbrev pub topAddress : ℕ
+topAddress = 2 ^ 64 - 1

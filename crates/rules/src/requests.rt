@@ -11,6 +11,8 @@ pub const UNMAP: u8 = 4;
 
 pub const OK: u8 = 0;
 
+pub const DEVERR: u8 = 3;
+
 pub const INVAL: u8 = 4;
 
 pub const RANGE: u8 = 5;

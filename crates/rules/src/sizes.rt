@@ -32,3 +32,6 @@ pub const STATUS_SIZE: usize = 4;
 
 // What the guest's number is multiplied by in a record's first word.
 pub const DOMAIN_SPAN: u64 = 4294967296;
+
+// The last address there is.
+pub const TOP_ADDRESS: u64 = 18446744073709551615;

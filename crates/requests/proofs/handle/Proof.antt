@@ -4,8 +4,8 @@ use mathlib.Core.Path.{_∙_}
 use lib.Dec.{ltb}
 use borrow.Author.Tests.{lt-ltb}
 use Rattle.laws.proofs.Tests.{both}
-use Rattle.rules.specs.Sizes.{maxGuests}
-use Rattle.effects.specs.Flat.{device, topAddress}
+use Rattle.rules.specs.Sizes.{maxGuests, topAddress}
+use Rattle.effects.specs.Flat.{device}
 use Rattle.effects.specs.Outcome.{outcome}
 use Rattle.effects.proofs.Cases.{handled-refused, handled-attach, handled-detach, handled-map, handled-unmap}
 use Rattle.effects.proofs.Mapped.{map-placed}
@@ -20,14 +20,14 @@ returns c =
 returns-2 : tie.Need-returns-2
 returns-2 c =
     let a = c .before .before .before .before .before .before .before .before .args in
-    let h = c .before .before .attach in
+    let h = c .before .before .handle-attach in
     let q = c .before .before .before .before .before .q .given in
     handled-attach (device (a .s) (a .t .now)) (a .g) (a .q) (outcome (h .result) (h .last .1 .0)) (q .0 .0) (q .0 .1 .0) (q .0 .1 .1 .0) (q .1) (h .ensures)
 
 returns-3 : tie.Need-returns-3
 returns-3 c =
     let a = c .before .before .before .before .before .before .before .before .args in
-    let h = c .before .before .detach in
+    let h = c .before .before .handle-detach in
     let q = c .before .before .before .before .before .q2 .given in
     handled-detach (device (a .s) (a .t .now)) (a .g) (a .q) (outcome (h .result) (h .last .1 .0)) (q .0 .0) (q .0 .1 .0) (q .0 .1 .1 .0) (q .1) (h .ensures)
 
@@ -35,7 +35,7 @@ returns-4 : tie.Need-returns-4
 returns-4 c =
     let st = c .before .before .before .before .before .before .before .before .before in
     let a = st .args in
-    let h = c .before .before .map in
+    let h = c .before .before .handle-map in
     let q = c .before .before .before .before .before .before .q3 .given in
     let k = c .before .before .before .before .key-of in
     let p = both (ltb (a .g .0) maxGuests) _ (lt-ltb (a .g .0) maxGuests (st .pre .0)) (lt-ltb (a .s .live) topAddress (st .pre .1)) in
@@ -45,7 +45,7 @@ returns-4 c =
 returns-5 : tie.Need-returns-5
 returns-5 c =
     let a = c .before .before .before .before .before .before .before .before .args in
-    let h = c .before .before .unmap in
+    let h = c .before .before .handle-unmap in
     let q = c .before .before .before .before .before .q4 .given in
     handled-unmap (device (a .s) (a .t .now)) (a .g) (a .q) (outcome (h .result) (h .last .1 .0)) (q .0 .0) (q .0 .1 .0) (q .1) (h .ensures)
 

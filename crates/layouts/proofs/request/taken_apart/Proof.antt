@@ -1,24 +1,11 @@
 -- `layouts::request::taken_apart` meets its contract. Assumes nothing.
 use mathlib.Core.Path.{_≡_, sym, _∙_}
-use mathlib.Core.Logic.{⊎-elim}
 use native.Mathlib.Omega.{arith}
 use borrow.Author.Needs.{needs}
 use Rattle.layouts.specs.Parsed.{asked}
-use Rattle.layouts.proofs.Laws.{at-least, only-unmap}
+use Rattle.layouts.proofs.Laws.{at-least}
 use Rattle.layouts.proofs.request.taken_apart.Statement.{statement}
 use Rattle.layouts.proofs.request.taken_apart.Tie as tie
-
--- in the arm for the rest the type is UNMAP
-unmap : (c : tie.At-match-came) → c .before .before .before .args .kind ≡ 4
-unmap c =
-    let k = c .before .before .before .pre in
-    ⊎-elim
-    (λ w. omega (arith, w .keys4))
-    (λ w. only-unmap _ (w .rest .0 .0 .0 .1) (w .rest .0 .0 .1) (w .rest .0 .1) (k .low) (k .high))
-    (c .match .came)
-
-unmap-fields-requires : tie.Need-unmap-fields-requires
-unmap-fields-requires c κs = let s = c .before .before .before in s .pre .sized ∙ rw (unmap c)
 
 attach : tie.Need-returns
 unfolding asked
@@ -40,11 +27,18 @@ map c =
     let d = c .before .before in
     rw (sym (d .before .before .pre .typed), c .before .match .keys3, d .domain-field .ensures, c .map-fields .ensures)
 
-rest : tie.Need-returns-4
+unmap : tie.Need-returns-4
 unfolding asked
-rest c =
+unmap c =
     let d = c .before .before in
-    rw (sym (d .before .before .pre .typed), unmap (c .before), d .domain-field .ensures, c .unmap-fields .ensures)
+    rw (sym (d .before .before .pre .typed), c .before .match .keys4, d .domain-field .ensures, c .unmap-fields .ensures)
+
+-- no known type is in the arm for the rest
+zero-type : tie.Need-returns-5
+zero-type c = absurd (omega (arith, c .match .keys5, c .before .before .before .pre .low))
+
+high-type : tie.Need-returns-6
+high-type c = absurd (omega (arith, c .match .rest, c .before .before .before .pre .low, c .before .before .before .pre .high))
 
 pub taken-apart-spec : {M : Type 1} → statement M
 taken-apart-spec =
@@ -52,12 +46,14 @@ taken-apart-spec =
     (tie.spec
     (λ c κs. at-least (c .before .pre))
     (λ c κs. at-least (c .before .before .before .pre))
-    (λ c κs. c .before .before .before .before .pre .sized ∙ rw (c .before .match .keys1))
-    (λ c κs. at-least (c .before .before .before .pre))
-    (λ c κs. c .before .before .before .before .pre .sized ∙ rw (c .before .match .keys2))
     (λ c κs. search needs)
-    unmap-fields-requires
+    (λ c κs. at-least (c .before .before .before .pre))
+    (λ c κs. search needs)
+    (λ c κs. search needs)
+    (λ c κs. search needs)
     attach
     detach
     map
-    rest)
+    unmap
+    zero-type
+    high-type)

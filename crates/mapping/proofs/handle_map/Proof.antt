@@ -1,4 +1,4 @@
--- `mapping::map` meets its contract. Assumes nothing.
+-- `mapping::handle_map` meets its contract. Assumes nothing.
 use native.Mathlib.Omega.{arith}
 use borrow.Author.Needs.{needs}
 use mathlib.Core.Path.{_≡_, sym, _∙_}
@@ -9,10 +9,10 @@ use borrow.Author.Tests.{ltb-true, not-true, not-false}
 use Rattle.laws.proofs.Tests.{both-left, both-right}
 use Rattle.rules.specs.declared.Guest.{Guest}
 use Rattle.rules.specs.declared.State.{State}
-use Rattle.effects.specs.Flat.{topAddress}
+use Rattle.rules.specs.Sizes.{topAddress}
 use Rattle.effects.proofs.Mapped.{map-unplaced, map-placed, map-refused, map-done}
-use Rattle.mapping.proofs.map.Statement.{statement}
-use Rattle.mapping.proofs.map.Tie as tie
+use Rattle.mapping.proofs.handle_map.Statement.{statement}
+use Rattle.mapping.proofs.handle_map.Tie as tie
 
 -- the guest and one record more have places
 places : (s : State) (g : Guest) → (ltb (g .0) 4 && ltb (s .live) topAddress) ≡ true → (g .0 < 4) × (s .live < topAddress)
@@ -51,5 +51,5 @@ returns-3 c =
     let a = i .before .before .before .args in
     map-done (a .s) (a .t .now) (a .g) (a .d) (a .r) (x .result) (w .last .0) (x .ensures) (e .if2 .left) (w .ensures) ∙ sym (map-placed (a .s) (a .t .now) (a .g) (a .d) (a .r) (not-false _ (i .if1 .left)))
 
-pub map-spec : {M : Type 1} → statement M
-map-spec = tie.close (tie.spec returns map-status-requires (λ c. search needs) returns-2 (λ c κs. search needs) add-next (λ c. search needs) returns-3)
+pub handle-map-spec : {M : Type 1} → statement M
+handle-map-spec = tie.close (tie.spec returns map-status-requires (λ c. search needs) returns-2 (λ c κs. search needs) add-next (λ c. search needs) returns-3)

@@ -1,8 +1,8 @@
--- `endpoints::detach` meets its contract. Assumes nothing.
+-- `endpoints::handle_detach` meets its contract. Assumes nothing.
 use borrow.Author.Needs.{needs}
 use Rattle.effects.proofs.Turns.{detach-fails, detach-works}
-use Rattle.endpoints.proofs.detach.Statement.{statement}
-use Rattle.endpoints.proofs.detach.Tie as tie
+use Rattle.endpoints.proofs.handle_detach.Statement.{statement}
+use Rattle.endpoints.proofs.handle_detach.Tie as tie
 
 returns : tie.Need-returns
 returns c =
@@ -20,5 +20,5 @@ returns-2 c =
     let p = e .before .before .place-of in
     detach-works (a .t1) (a .t .now) (a .g) (a .d) (a .e) (a .reserved) (p .result) (n .result) (p .ensures) (m .result) (m .last .1 .0) (n .ensures) (e .if1 .left) (m .ensures)
 
-pub detach-spec : {M : Type 1} → statement M
-detach-spec = tie.close (tie.spec (λ c κs. search needs) (λ c κs. search needs) returns (λ c κs. search needs) (λ c. search needs) returns-2)
+pub handle-detach-spec : {M : Type 1} → statement M
+handle-detach-spec = tie.close (tie.spec (λ c κs. search needs) (λ c κs. search needs) returns (λ c κs. search needs) (λ c. search needs) returns-2)

@@ -1,9 +1,9 @@
--- `unmapping::unmap` meets its contract. Assumes nothing.
+-- `unmapping::handle_unmap` meets its contract. Assumes nothing.
 use native.Mathlib.Omega.{arith}
 use borrow.Author.Needs.{needs}
 use Rattle.effects.proofs.Mapped.{unmap-refused, unmap-done}
-use Rattle.unmapping.proofs.unmap.Statement.{statement}
-use Rattle.unmapping.proofs.unmap.Tie as tie
+use Rattle.unmapping.proofs.handle_unmap.Statement.{statement}
+use Rattle.unmapping.proofs.handle_unmap.Tie as tie
 
 returns : tie.Need-returns
 returns c =
@@ -20,5 +20,5 @@ returns-2 c =
     let a = e .before .before .before .before .args in
     unmap-done (a .s) (a .t .now) (a .g) (a .d) (a .a) (a .b) (a .reserved) (x .result) (k .result) (r .result) (r .last .1 .0) (x .ensures) (omega (arith, e .if1 .left)) (k .ensures) (r .ensures)
 
-pub unmap-spec : {M : Type 1} → statement M
-unmap-spec = tie.close (tie.spec (λ c κs. search needs) (λ c. search needs) returns (λ c κs. search needs) (λ c κs. search needs) (λ c. search needs) returns-2)
+pub handle-unmap-spec : {M : Type 1} → statement M
+handle-unmap-spec = tie.close (tie.spec (λ c κs. search needs) (λ c. search needs) returns (λ c κs. search needs) (λ c κs. search needs) (λ c. search needs) returns-2)

@@ -1,8 +1,8 @@
--- `endpoints::attach` meets its contract. Assumes nothing.
+-- `endpoints::handle_attach` meets its contract. Assumes nothing.
 use borrow.Author.Needs.{needs}
 use Rattle.effects.proofs.Turns.{attach-fails, attach-works}
-use Rattle.endpoints.proofs.attach.Statement.{statement}
-use Rattle.endpoints.proofs.attach.Tie as tie
+use Rattle.endpoints.proofs.handle_attach.Statement.{statement}
+use Rattle.endpoints.proofs.handle_attach.Tie as tie
 
 returns : tie.Need-returns
 returns c =
@@ -20,5 +20,5 @@ returns-2 c =
     let p = e .before .before .place-of in
     attach-works (a .t1) (a .t .now) (a .g) (a .d) (a .e) (a .reserved) (p .result) (n .result) (p .ensures) (m .result) (m .last .1 .0) (n .ensures) (e .if1 .left) (m .ensures)
 
-pub attach-spec : {M : Type 1} → statement M
-attach-spec = tie.close (tie.spec (λ c κs. search needs) (λ c κs. search needs) returns (λ c κs. search needs) (λ c. search needs) returns-2)
+pub handle-attach-spec : {M : Type 1} → statement M
+handle-attach-spec = tie.close (tie.spec (λ c κs. search needs) (λ c κs. search needs) returns (λ c κs. search needs) (λ c. search needs) returns-2)

@@ -1,0 +1,123 @@
+-- A request's steps where all of them pass, as facts with names, and what its status settles.
+use Prim.Native.Nat.{ℕ, _+_, _-_, _%_, _≤_, _<_}
+use mathlib.Core.Path.{_≡_, refl}
+use mathlib.Core.Bool.{Bool, true, false, not}
+use mathlib.Core.List.{List}
+use mathlib.Core.Option.{Option, some, none}
+use lib.Dec.{ltb, eqb}
+use lib.ListN.{length}
+use borrow.Author.Tests.{eqb-true, ltb-false, leb-false, not-true, not-false}
+use Rattle.laws.specs.Lists.{all?, any?, firstFailing}
+use Rattle.laws.proofs.Tests.{either-way, true-false, nor, Clear, cleared, clear-left, clear-right, failing-among}
+use Rattle.rules.specs.declared.Endpoint.{Endpoint}
+use Rattle.rules.specs.declared.Domain.{Domain}
+use Rattle.rules.specs.declared.Mapping.{Mapping}
+use Rattle.rules.specs.Table.{overlap}
+use Rattle.rules.specs.State.{Attachment}
+use Rattle.rules.specs.Guests.{Own, Part}
+use Rattle.rules.specs.Requests.{OK}
+use Rattle.rules.specs.Sound.{passes}
+use Rattle.rules.specs.Handlers.{Steps, orOK, statusOf, settle, outside, isIn, exists, listed, attachmentOf, granularity, attachSteps, detachSteps, formSteps, recordSteps, mapSteps, unmapSteps}
+
+-- STATUSES
+
+-- a step whose status is not OK
+abbrev pub nonzero : Bool × ℕ → Bool
+nonzero s = not (eqb (s .1) OK)
+
+-- where the status is OK, every step passes
+pub clear : (l : Steps) → all? nonzero l ≡ true → statusOf l ≡ OK → Clear l
+clear l n h = cleared l (go (firstFailing l) refl h)
+  where
+    go : (v : Option ℕ) → firstFailing l ≡ v → orOK v ≡ OK → firstFailing l ≡ none
+    go none e z = e
+    go (some s) e z = true-false (not (eqb s OK)) (failing-among (λ i. not (eqb i OK)) l s e n) (rw z)
+
+-- no step fails exactly where the status is OK
+pub status-passes : (l : Steps) → all? nonzero l ≡ true → eqb (statusOf l) OK ≡ passes (firstFailing l)
+status-passes l n = go (firstFailing l) refl
+  where
+    go : (v : Option ℕ) → firstFailing l ≡ v → eqb (orOK v) OK ≡ passes v
+    go none e = refl
+    go (some s) e = not-true (eqb s OK) (failing-among (λ i. not (eqb i OK)) l s e n)
+
+-- what a request leaves, where its steps are clear
+pub settle-keeps : (P : Part → Type 0) (l : Steps) (p q : Part) → all? nonzero l ≡ true → P p → (Clear l → P q) → P (settle (statusOf l) p q .1)
+unfolding settle
+settle-keeps P l p q n hp hq = either-way P (eqb (statusOf l) OK) (λ e. hq (clear l n (eqb-true (statusOf l) OK e))) (λ e. hp)
+
+-- RANGES
+
+pub outside-high : (a b x : ℕ) → outside a b x ≡ false → (a ≤ x) × (x ≤ b)
+unfolding outside
+outside-high a b x h = (ltb-false x a (nor (ltb x a) (ltb b x) h .0), ltb-false b x (nor (ltb x a) (ltb b x) h .1))
+
+-- STEPS THAT PASS
+
+pub record Attaches (o : Own) (d : Domain) (e : Endpoint) : Type 0 where
+  pub owned : listed e (o .endpoints) ≡ true
+  pub within : outside (o .domains .start) (o .domains .end) (d .0) ≡ false
+
+pub attaches : (o : Own) (d : Domain) (e : Endpoint) (z : ℕ) → Clear (attachSteps o d e z) → Attaches o d e
+attaches o d e z c = record { owned = not-false _ (c .1 .0); within = c .1 .1 .0 }
+
+pub record Detaches (o : Own) (p : Part) (d : Domain) (e : Endpoint) : Type 0 where
+  pub owned : listed e (o .endpoints) ≡ true
+  pub here : isIn d (attachmentOf e (o .endpoints) (p .attachments)) ≡ true
+
+pub detaches : (o : Own) (p : Part) (d : Domain) (e : Endpoint) (z : ℕ) → Clear (detachSteps o p d e z) → Detaches o p d e
+detaches o p d e z c = record { owned = not-false _ (c .1 .0); here = not-false _ (c .1 .1 .0) }
+
+-- MAP's steps 2 to 6
+pub record Formed (o : Own) (r : Mapping) : Type 0 where
+  pub known : r .flags ≤ 3
+  pub wide : r .start < r .end
+  pub start-aligned : eqb (r .start % granularity (o .mask)) 0 ≡ true
+  pub end-aligned : eqb ((r .end + 1) % granularity (o .mask)) 0 ≡ true
+  pub start-within : (o .input .start ≤ r .start) × (r .start ≤ o .input .end)
+  pub end-within : (o .input .start ≤ r .end) × (r .end ≤ o .input .end)
+  pub phys-within : (o .first ≤ r .phys) × (r .phys ≤ o .last)
+  pub phys-end-within : (o .first ≤ r .phys + r .end - r .start) × (r .phys + r .end - r .start ≤ o .last)
+
+pub formed : (o : Own) (r : Mapping) → Clear (formSteps o r) → Formed o r
+unfolding formSteps
+formed o r c =
+    let grain = nor _ _ (c .1 .1 .0) in
+    let input = nor _ _ (c .1 .1 .1 .0) in
+    let window = nor _ _ (c .1 .1 .1 .1 .0) in
+    record {
+      known = ltb-false 3 (r .flags) (c .0);
+      wide = leb-false (r .end) (r .start) (c .1 .0);
+      start-aligned = not-false _ (grain .0);
+      end-aligned = not-false _ (grain .1);
+      start-within = outside-high _ _ _ (input .0);
+      end-within = outside-high _ _ _ (input .1);
+      phys-within = outside-high _ _ _ (window .0);
+      phys-end-within = outside-high _ _ _ (window .1);
+    }
+
+-- its steps 1 to 6
+pub record Recorded (o : Own) (l : List Attachment) (d : Domain) (r : Mapping) : Type 0 where
+  pub there : exists d l ≡ true
+  pub form : Clear (formSteps o r)
+
+pub recorded : (o : Own) (l : List Attachment) (d : Domain) (r : Mapping) → Clear (recordSteps o l d r) → Recorded o l d r
+recorded o l d r c = record { there = not-false _ (c .0); form = c .1 }
+
+-- all of its steps
+pub record Maps (o : Own) (p : Part) (d : Domain) (r : Mapping) : Type 0 where
+  pub early : Recorded o (p .attachments) d r
+  pub free : any? (overlap r) (p .records) ≡ false
+  pub room : length (p .records) < o .share
+
+pub maps : (o : Own) (p : Part) (d : Domain) (r : Mapping) → Clear (mapSteps o p d r) → Maps o p d r
+maps o p d r c =
+    let late = clear-right (recordSteps o (p .attachments) d r) _ c in
+    record {
+      early = recorded o (p .attachments) d r (clear-left (recordSteps o (p .attachments) d r) _ c);
+      free = late .0;
+      room = leb-false (o .share) (length (p .records)) (late .1 .0);
+    }
+
+pub unmap-there : (o : Own) (p : Part) (d : Domain) (a b z : ℕ) → Clear (unmapSteps o p d a b z) → exists d (p .attachments) ≡ true
+unmap-there o p d a b z c = not-false _ (c .0)
