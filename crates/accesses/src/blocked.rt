@@ -2,6 +2,7 @@
 ghost use mathlib.Core.Path.{_≡_};
 ghost use lib.ListN.{getD};
 ghost use Rattle.rules.specs.Access.{faultOf};
+ghost use Rattle.rules.specs.Sound.{guest};
 ghost use Rattle.effects.specs.Flat.{reasonOf, accessed};
 use rules::Answer;
 use rules::Endpoint;
@@ -40,10 +41,11 @@ fn fault_of(reason: u8, e: Endpoint, address: u64, kind: u8) -> Fault
 }
 
 // The owner at a place, 0 past the last.
-fn owner_at(owners: &[u8], i: usize) -> u8
-    ensures { λ r. ⌜ r ≡ getD (now (owners .entry)) i 0 ⌝ }
+fn owner_at(owners: &[u8], i: usize) -> Guest
+    ensures { λ r. ⌜ r ≡ guest (getD (now (owners .entry)) i 0) ⌝ }
 {
-    if i < owners.len() { owners[i] } else { 0 }
+    let owner = if i < owners.len() { owners[i] } else { 0 };
+    Guest(owner)
 }
 
 // The state after an access with this answer: a blocked one logs a fault for the endpoint's owner.
@@ -56,5 +58,5 @@ pub fn log_blocked(s: State, e: Endpoint, address: u64, kind: u8, a: Answer) -> 
     }
     let i = attachments::place_of(s.listed, &s.endpoints, e);
     let owner = owner_at(&s.owners, i);
-    logging::log_fault(s, Guest(owner), fault_of(reason, e, address, kind))
+    logging::log_fault(s, owner, fault_of(reason, e, address, kind))
 }

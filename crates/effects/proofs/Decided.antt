@@ -35,7 +35,7 @@ use Rattle.lookups.proofs.Outcomes.{found-at, found-nothing}
 use Rattle.logging.specs.Changes.{faultLogged}
 use Rattle.attachments.specs.Search.{indexOf}
 use Rattle.fault_records.proofs.Laws.{length-fault, fault-whole}
-use Rattle.effects.specs.Flat.{placeOfEndpoint, answerOf, decided, reasonOf, accessed, fetchBytes}
+use Rattle.effects.specs.Flat.{placeOfEndpoint, ownerAt, answerOf, decided, reasonOf, accessed, fetchBytes}
 
 -- ACCESS
 
@@ -101,7 +101,7 @@ module _ (s : State) (e : Endpoint) (x k : ℕ) (a : Answer) (reason : ℕ) (is 
   unfolding accessed
   logs-nothing h = rw (sym is, eq-eqb reason 0 h)
 
-  pub logs-fault : (reason ≡ 0 → ⊥) → (i owner : ℕ) (f : Fault) (t : State) → i ≡ placeOfEndpoint s e → owner ≡ getD (s .owners) i 0 → f ≡ faultOf reason e x k → t ≡ faultLogged s owner f → t ≡ accessed s e x k a
+  pub logs-fault : (reason ≡ 0 → ⊥) → (i : ℕ) (owner : Guest) (f : Fault) (t : State) → i ≡ placeOfEndpoint s e → owner ≡ ownerAt s i → f ≡ faultOf reason e x k → t ≡ faultLogged s owner f → t ≡ accessed s e x k a
   unfolding accessed
   logs-fault h i owner f t p q r u = rw (sym is, ne-eqb reason 0 h, sym p, sym q, sym r) u
 

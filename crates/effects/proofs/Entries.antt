@@ -85,7 +85,7 @@ module _ (s : State) (ws : List ℕ) (g : Guest) where
       pub reset-works : (r : State) (vs : List ℕ) → device r vs ≡ resetFlat (device s ws) g → (record { answer = Done; buffer = [] }, device r vs) ≡ step (device s ws) (reset-of g)
       reset-works r vs x = ap (λ (y : Device). (record { answer = Done; buffer = [] }, y)) x ∙ sym (reset-step (device s ws) on k g below)
 
-      pub fetch-works : (b c : List ℕ) (n : ℕ) (r : State) → n ≡ fetchCount s g (length b) → c ≡ fetchBytes s g n b → r ≡ faultsDropped s (g .0) n
+      pub fetch-works : (b c : List ℕ) (n : ℕ) (r : State) → n ≡ fetchCount s g (length b) → c ≡ fetchBytes s g n b → r ≡ faultsDropped s g n
           → (record { answer = Fetched n; buffer = c }, device r ws) ≡ step (device s ws) (fetch-for g b)
       fetch-works b c n r x y z = rw (y, z, x) (sym (fetch-step (device s ws) on k g b below))
 

@@ -59,8 +59,15 @@ ownedAt s g i = ltb i (s .listed) && eqb (getD (s .owners) i 0) (g .0)
 abbrev pub isAttached : State → ℕ → Bool
 isAttached s i = eqb (getD (s .attached) i 0) 1
 
+abbrev pub ownerAt : State → ℕ → Guest
+ownerAt s i = record { 0 = getD (s .owners) i 0 }
+
 abbrev pub domainAt : State → ℕ → Domain
 domainAt s i = record { 0 = getD (s .domains) i 0 }
+
+-- "0 where unattached"
+abbrev pub noDomain : Domain
+noDomain = record { 0 = 0 }
 
 unfoldable pub existsFlat : State → Guest → Domain → Bool
 existsFlat s g d = anyBelow (min (length (s .owners)) (min (length (s .attached)) (length (s .domains)))) (belongs (s .owners) (s .attached) (s .domains) g d)
@@ -83,12 +90,12 @@ inserted d r = device (withLive (suc (d .state .live)) (d .state)) (insertedWord
 -- the endpoint at place i leaves domain dom
 unfoldable pub left : Device → Guest → ℕ → Domain → Device
 left d g i dom =
-    cond (existsFlat (attachedAt (d .state) i 0 0) g dom) (device (attachedAt (d .state) i 0 0) (d .table))
-    (removed (device (attachedAt (d .state) i 0 0) (d .table)) (keyOf g dom) (keyOf g dom) 0 topAddress)
+    cond (existsFlat (attachedAt (d .state) i 0 noDomain) g dom) (device (attachedAt (d .state) i 0 noDomain) (d .table))
+    (removed (device (attachedAt (d .state) i 0 noDomain) (d .table)) (keyOf g dom) (keyOf g dom) 0 topAddress)
 
 -- and enters one
 unfoldable pub entered : Device → ℕ → Domain → Device
-entered d i dom = device (attachedAt (d .state) i 1 (dom .0)) (d .table)
+entered d i dom = device (attachedAt (d .state) i 1 dom) (d .table)
 
 unfoldable pub moved : Device → Guest → ℕ → Domain → Device
 moved d g i dom =
@@ -154,7 +161,7 @@ unmapFlat d g dom a b reserved = settled (unmapStatus d g dom a b reserved) d (r
 -- RESET
 
 unfoldable pub resetFlat : Device → Guest → Device
-resetFlat d g = removed (device (guestCleared (d .state) (g .0)) (d .table)) (g .0 * domainSpan) (g .0 * domainSpan + (domainSpan - 1)) 0 topAddress
+resetFlat d g = removed (device (guestCleared (d .state) g) (d .table)) (g .0 * domainSpan) (g .0 * domainSpan + (domainSpan - 1)) 0 topAddress
 
 -- ACCESS
 
@@ -193,7 +200,7 @@ reasonOf Unmapped = 2
 -- the state after an access: a blocked one logs a fault for the endpoint's owner
 unfoldable pub accessed : State → Endpoint → ℕ → ℕ → Answer → State
 accessed s e x k a =
-    cond (eqb (reasonOf a) 0) s (faultLogged s (getD (s .owners) (placeOfEndpoint s e) 0) (faultOf (reasonOf a) e x k))
+    cond (eqb (reasonOf a) 0) s (faultLogged s (ownerAt s (placeOfEndpoint s e)) (faultOf (reasonOf a) e x k))
 
 -- FETCH
 
