@@ -19,7 +19,7 @@ use Rattle.rules.specs.declared.Answer.{Answer}
 use Rattle.rules.specs.declared.Answer.the-variants.{Done, Served, Through, Fetched, NoSuchGuest, Unsound, UnknownType, WrongLength, BadConfiguration, UnknownEndpoint, Unattached, Unmapped}
 use Rattle.rules.specs.Configuration.{share, windowFirst, windowLast}
 use Rattle.rules.specs.Table.{keyOf, records, overlap}
-use Rattle.rules.specs.State.{Device, faultAt}
+use Rattle.rules.specs.State.{Device, domainAt, faultAt}
 use Rattle.rules.specs.Guests.{recordsOf}
 use Rattle.rules.specs.Requests.{OK, INVAL, RANGE, NOENT, FAULT, NOMEM}
 use Rattle.rules.specs.Handlers.{outside, granularity, straddles}
@@ -61,9 +61,6 @@ isAttached s i = eqb (getD (s .attached) i 0) 1
 
 abbrev pub ownerAt : State → ℕ → Guest
 ownerAt s i = record { 0 = getD (s .owners) i 0 }
-
-abbrev pub domainAt : State → ℕ → Domain
-domainAt s i = record { 0 = getD (s .domains) i 0 }
 
 -- "0 where unattached"
 abbrev pub noDomain : Domain

@@ -21,7 +21,7 @@ use Rattle.rules.specs.declared.Fault.{Fault}
 use Rattle.rules.specs.Sizes.{maxGuests, maxEndpoints, maxRecords, maxFaults, maxLost, faultPlaces}
 use Rattle.rules.specs.Configuration.{Config, share, windowFirst, windowLast, good}
 use Rattle.rules.specs.Table.{guestOf, records, tableOf}
-use Rattle.rules.specs.State.{Attachment, Log, World, noFault, noLog, configOf, attachment, read, trimmed, flagOf, numberOf, logOf, faultPlaced, stateOf, write}
+use Rattle.rules.specs.State.{Attachment, Log, World, noFault, noLog, configOf, attachment, domainAt, read, trimmed, flagOf, numberOf, logOf, faultPlaced, stateOf, write}
 use Rattle.rules.specs.Guests.{Own, own, part, recordsOf}
 use Rattle.rules.specs.Sound.{guest, recordGood, attachmentGood, faultGood, zeroFrom, faultZero, faultPlaceGood, unusedTests, soundTests, sound}
 use Rattle.rules.proofs.Parts.{inRange, recordOk, logTests, logOk}
@@ -73,12 +73,12 @@ module _ (c : Config) (w : World) (h : Whole c w) where
       same g none e = unfold inRange in refl
       same g (some d) e = unfold inRange own in e
 
-  attachment-good : (a : Attachment) → inRange (own c (guest 0)) a ≡ true → attachmentGood c (flagOf a) (numberOf a) ≡ true
+  attachment-good : (a : Attachment) → inRange (own c (guest 0)) a ≡ true → attachmentGood c (flagOf a) (record { 0 = numberOf a }) ≡ true
   unfolding attachmentGood inRange own
   attachment-good none e = refl
   attachment-good (some d) e = rw e
 
-  listed-good : (i : ℕ) → i < length (c .endpoints) → attachmentGood c (getD (stateOf c w .attached) i 0) (getD (stateOf c w .domains) i 0) ≡ true
+  listed-good : (i : ℕ) → i < length (c .endpoints) → attachmentGood c (getD (stateOf c w .attached) i 0) (domainAt (stateOf c w) i) ≡ true
   unfolding stateOf
   listed-good i l =
       rw (getD-tab maxEndpoints (λ j. flagOf (getD (w .attachments) j none)) i 0 (omega (arith, l, good-c .few)), getD-tab maxEndpoints (λ j. numberOf (getD (w .attachments) j none)) i 0 (omega (arith, l, good-c .few)))

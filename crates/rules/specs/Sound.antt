@@ -7,13 +7,14 @@ use lib.Dec.{leb, ltb, eqb}
 use lib.ListN.{length, getD, drop}
 use Rattle.laws.specs.Lists.{all?, every?, pairwise, below, firstFailing}
 use Rattle.rules.specs.declared.Guest.{Guest}
+use Rattle.rules.specs.declared.Domain.{Domain}
 use Rattle.rules.specs.declared.State.{State}
 use Rattle.rules.specs.declared.Mapping.{Mapping}
 use Rattle.rules.specs.declared.Fault.{Fault}
 use Rattle.rules.specs.Sizes.{maxRecords, recordWords, tableWords, maxFaults, faultPlaces, maxLost}
 use Rattle.rules.specs.Configuration.{Config, share, good}
 use Rattle.rules.specs.Table.{guestOf, domainOf, before, overlap}
-use Rattle.rules.specs.State.{World, Device, configOf, read, faultAt}
+use Rattle.rules.specs.State.{World, Device, configOf, read, domainAt, faultAt}
 use Rattle.rules.specs.Guests.{Own, own, part, recordsOf}
 use Rattle.rules.specs.Handlers.{Steps, outside, listed, recordSteps}
 
@@ -31,9 +32,9 @@ recordGood c w r =
     passes (firstFailing (recordSteps (own c (guest (guestOf r))) (part c (guest (guestOf r)) w .attachments) (domainOf r) r))
 
 -- "every attached endpoint's domain lies in the domain range and every unattached one holds 0"; the flag is 0 or 1
-unfoldable pub attachmentGood : Config → ℕ → ℕ → Bool
+unfoldable pub attachmentGood : Config → ℕ → Domain → Bool
 attachmentGood c flag d =
-    (eqb flag 1 && not (outside (c .settings .domains .start) (c .settings .domains .end) d)) || (eqb flag 0 && eqb d 0)
+    (eqb flag 1 && not (outside (c .settings .domains .start) (c .settings .domains .end) (d .0))) || (eqb flag 0 && eqb (d .0) 0)
 
 -- "each logged fault has the form below and names an endpoint of its guest": reason 1 or 2, READ or WRITE plus ADDRESS
 unfoldable pub faultGood : Own → Fault → Bool
@@ -87,7 +88,7 @@ soundTests c w d =
     -- "no guest holds more than its share"
     ∷ below (c .settings .guests) (λ g. leb (length (recordsOf (guest g) (w .records))) (share (c .settings) g))
     -- "every attached endpoint's domain lies in the domain range and every unattached one holds 0"
-    ∷ below (d .state .listed) (λ i. attachmentGood c (getD (d .state .attached) i 0) (getD (d .state .domains) i 0))
+    ∷ below (d .state .listed) (λ i. attachmentGood c (getD (d .state .attached) i 0) (domainAt (d .state) i))
     -- "log counts are at most 16, lost counts at most 65,535"
     ∷ below (c .settings .guests) (λ g. leb (getD (d .state .logged) g 0) maxFaults)
     ∷ below (c .settings .guests) (λ g. leb (getD (d .state .lost) g 0) maxLost)

@@ -13,7 +13,7 @@ use Rattle.laws.proofs.Tables.{below-at, below-all}
 use Rattle.rules.specs.Sizes.{maxGuests, maxEndpoints, maxFaults, maxLost}
 use Rattle.rules.specs.declared.State.{State}
 use Rattle.rules.specs.Configuration.{share, windowFirst, windowLast}
-use Rattle.rules.specs.State.{configOf}
+use Rattle.rules.specs.State.{configOf, domainAt}
 use Rattle.rules.specs.Sound.{attachmentGood, unusedTests}
 use Rattle.rules.proofs.Zeros.{zero-at, zero-from}
 use Rattle.sound_places.specs.Places.{guestGood, guestPlace, rangeAlone, endpointGood, endpointPlace, placeTests}
@@ -58,7 +58,7 @@ module _ (s : State) (a : Arrays s) (few : s .settings .guests ≤ maxGuests) (f
   guest-zeros g = eqb (share (s .settings) g) 0 ∷ eqb (windowFirst (s .settings) g) 0 ∷ eqb (windowLast (s .settings) g) 0 ∷ eqb (getD (s .logged) g 0) 0 ∷ eqb (getD (s .lost) g 0) 0 ∷ []
 
   abbrev attachment : ℕ → Bool
-  attachment i = attachmentGood (rangeAlone (s .settings .domains)) (getD (s .attached) i 0) (getD (s .domains) i 0)
+  attachment i = attachmentGood (rangeAlone (s .settings .domains)) (getD (s .attached) i 0) (domainAt s i)
 
   abbrev endpoint-zeros : ℕ → List Bool
   endpoint-zeros i = eqb (getD (s .endpoints) i 0) 0 ∷ eqb (getD (s .owners) i 0) 0 ∷ eqb (getD (s .attached) i 0) 0 ∷ eqb (getD (s .domains) i 0) 0 ∷ []
