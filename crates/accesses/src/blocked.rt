@@ -44,8 +44,10 @@ fn fault_of(reason: u8, e: Endpoint, address: u64, kind: u8) -> Fault
 fn owner_at(owners: &[u8], i: usize) -> Guest
     ensures { λ r. ⌜ r ≡ guest (getD (now (owners .entry)) i 0) ⌝ }
 {
-    let owner = if i < owners.len() { owners[i] } else { 0 };
-    Guest(owner)
+    if i < owners.len() {
+        return Guest(owners[i]);
+    }
+    Guest(0)
 }
 
 // The state after an access with this answer: a blocked one logs a fault for the endpoint's owner.
