@@ -7,6 +7,7 @@ ghost use Rattle.rules.specs.Access.{flagFor, reasonOf, faultOf};
 ghost use Rattle.effects.specs.Flat.{afterAccess};
 use rules::Access;
 use rules::Cause;
+ghost use Rattle.rules.specs.Sound.{guest};
 use rules::Fault;
 use rules::Guest;
 use rules::State;
@@ -50,10 +51,13 @@ fn fault_of(cause: Cause, a: Access) -> Fault
 }
 
 // The owner at a place, 0 past the last.
-fn owner_at(owners: &[u8], i: usize) -> u8
-    ensures { λ r. ⌜ r ≡ getD (now (owners .entry)) i 0 ⌝ }
+fn owner_at(owners: &[u8], i: usize) -> Guest
+    ensures { λ r. ⌜ r ≡ guest (getD (now (owners .entry)) i 0) ⌝ }
 {
-    if i < owners.len() { owners[i] } else { 0 }
+    if i < owners.len() {
+        return Guest(owners[i]);
+    }
+    Guest(0)
 }
 
 // The state with the fault of a blocked access logged for its endpoint's owner.
@@ -62,5 +66,5 @@ pub(crate) fn log_blocked(s: State, a: Access, cause: Cause) -> State
 {
     let i = attachments::place_of(s.listed, &s.endpoints, a.endpoint);
     let owner = owner_at(&s.owners, i);
-    logging::log_fault(s, Guest(owner), fault_of(cause, a))
+    logging::log_fault(s, owner, fault_of(cause, a))
 }

@@ -11,7 +11,7 @@ pub use search::place_of;
 
 // The state with this attached flag and domain for the endpoint at place i; unchanged where there is no such place.
 pub fn attach_at(s: State, i: usize, flag: u8, d: Domain) -> State
-    ensures { λ r. ⌜ r ≡ attachedAt s i flag (d .0) ⌝ }
+    ensures { λ r. ⌜ r ≡ attachedAt s i flag d ⌝ }
 {
     let mut next = s;
     if i < MAX_ENDPOINTS {

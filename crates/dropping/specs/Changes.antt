@@ -6,19 +6,20 @@ use lib.Dec.{ltb, eqb}
 use lib.ListN.{getD, set}
 use Rattle.laws.specs.Lists.{tab}
 use Rattle.rules.specs.Sizes.{maxFaults, faultPlaces}
+use Rattle.rules.specs.declared.Guest.{Guest}
 use Rattle.rules.specs.declared.State.{State}
 use Rattle.state.specs.Fields.{withCounts, withFaults}
 
 -- the place that what stands at place i of guest g's faults comes from when the k oldest go: i itself for another guest,
 -- k places on for guest g; none (zero) where that is past the guest's places
-unfoldable pub shifted : ℕ → ℕ → List ℕ → ℕ → ℕ
-shifted g k l i = cond (eqb (i / maxFaults) g) (cond (ltb (i % maxFaults + k) maxFaults) (getD l (i + k) 0) 0) (getD l i 0)
+unfoldable pub shifted : Guest → ℕ → List ℕ → ℕ → ℕ
+shifted g k l i = cond (eqb (i / maxFaults) (g .0)) (cond (ltb (i % maxFaults + k) maxFaults) (getD l (i + k) 0) 0) (getD l i 0)
 
-abbrev pub shiftedAll : ℕ → ℕ → List ℕ → List ℕ
+abbrev pub shiftedAll : Guest → ℕ → List ℕ → List ℕ
 shiftedAll g k l = tab faultPlaces (shifted g k l)
 
 -- guest g's k oldest faults gone
-unfoldable pub faultsDropped : State → ℕ → ℕ → State
+unfoldable pub faultsDropped : State → Guest → ℕ → State
 faultsDropped s g k =
-    withCounts (set (s .logged) g (getD (s .logged) g 0 - k)) (s .lost)
+    withCounts (set (s .logged) (g .0) (getD (s .logged) (g .0) 0 - k)) (s .lost)
     (withFaults (shiftedAll g k (s .reasons)) (shiftedAll g k (s .flags)) (shiftedAll g k (s .sources)) (shiftedAll g k (s .addresses)) s)

@@ -11,7 +11,7 @@ use state::least;
 
 // The state with a guest's k oldest faults gone; all of them where it has no more than k.
 pub fn drop_faults(s: State, g: Guest, k: usize) -> State
-    ensures { λ r. ⌜ r ≡ faultsDropped s (g .0) k ⌝ }
+    ensures { λ r. ⌜ r ≡ faultsDropped s g k ⌝ }
 {
     let guest = g.0 as usize;
     if (guest >= MAX_GUESTS) | (k == 0) {
@@ -21,7 +21,7 @@ pub fn drop_faults(s: State, g: Guest, k: usize) -> State
     let mut logged = s.logged;
     let n = logged[guest];
     logged[guest] = n - least(n, k);
-    let mut next = shift_faults(s, guest, k);
+    let mut next = shift_faults(s, g, k);
     next.logged = logged;
     next
 }

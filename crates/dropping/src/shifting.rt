@@ -4,20 +4,22 @@ ghost use Prim.Native.Nat.{_<_};
 ghost use Rattle.rules.specs.Sizes.{maxGuests};
 ghost use Rattle.state.specs.Fields.{withFaults};
 ghost use Rattle.dropping.specs.Changes.{shiftedAll};
+use rules::Guest;
 use rules::State;
 use rules::sizes::MAX_FAULTS;
 
 // The state with the k oldest faults of guest g gone from the fault records: each of its places takes what stands k places on, or zero
 // where that is past its last place.
-pub(crate) fn shift_faults(s: State, g: usize, k: usize) -> State
-    requires { ⌜ g < maxGuests ⌝ }
+pub(crate) fn shift_faults(s: State, g: Guest, k: usize) -> State
+    requires { ⌜ g .0 < maxGuests ⌝ }
     ensures { λ r. ⌜ r ≡ withFaults (shiftedAll g k (s .reasons)) (shiftedAll g k (s .flags)) (shiftedAll g k (s .sources)) (shiftedAll g k (s .addresses)) s ⌝ }
 {
     let mut reasons = s.reasons;
     let mut flags = s.flags;
     let mut sources = s.sources;
     let mut addresses = s.addresses;
-    let first = MAX_FAULTS * g;
+    let guest = g.0 as usize;
+    let first = MAX_FAULTS * guest;
     let end = first + MAX_FAULTS;
     for i in first..end {
         if k < end - i {

@@ -43,7 +43,7 @@ use Rattle.state.specs.Pieces.{Shaped}
 use Rattle.logging.specs.Changes.{faultLogged}
 use Rattle.dropping.specs.Changes.{faultsDropped}
 use Rattle.attachments.specs.Search.{indexOf}
-use Rattle.effects.specs.Flat.{device, placeOfEndpoint, isAttached, liveRecords, answerOf, decisionAt, decision, afterAccess, fetchCount, fetchBytes}
+use Rattle.effects.specs.Flat.{device, placeOfEndpoint, isAttached, liveRecords, answerOf, decisionAt, decision, afterAccess, fetchCount, fetchBytes, ownerAt}
 use Rattle.effects.proofs.Places.{owner-at}
 use Rattle.effects.proofs.Leaving.{replace-same, attachment-here, flag-here, number-here, of-key-mine}
 use Rattle.effects.proofs.Requested.{small-domain, fault-written, fetch-written}
@@ -112,11 +112,11 @@ module _ (d : Device) (h : sound d ≡ true) (k : Shaped (d .state)) where
 
     -- a fault logged for the owner
     logged-here : (why : Cause) → getD (d .state .owners) (placeOfEndpoint (d .state) (x .endpoint)) 0 ≡ g .0
-        → device (faultLogged (d .state) (getD (d .state .owners) (placeOfEndpoint (d .state) (x .endpoint)) 0) (faultOf why x)) (d .table)
+        → device (faultLogged (d .state) (ownerAt (d .state) (placeOfEndpoint (d .state) (x .endpoint))) (faultOf why x)) (d .table)
         ≡ write (configOf (d .state)) (replace (configOf (d .state)) g (withLog (logged (faultOf why x) (part (configOf (d .state)) g (read d) .log)) (part (configOf (d .state)) g (read d))) (read d))
     logged-here why o =
-        ap (λ n. device (faultLogged (d .state) n (faultOf why x)) (d .table)) o
-        ∙ ap (λ (v : Device). device (faultLogged (v .state) (g .0) (faultOf why x)) (v .table)) (written d h k)
+        ap (λ n. device (faultLogged (d .state) (guest n) (faultOf why x)) (d .table)) o
+        ∙ ap (λ (v : Device). device (faultLogged (v .state) g (faultOf why x)) (v .table)) (written d h k)
         ∙ fault-written (configOf (d .state)) (kept-is d h k) (read d) (whole d h k) g m (faultOf why x)
 
     same-here : d ≡ write (configOf (d .state)) (replace (configOf (d .state)) g (part (configOf (d .state)) g (read d)) (read d))
@@ -201,7 +201,7 @@ module _ (d : Device) (h : sound d ≡ true) (k : Shaped (d .state)) where
   take-tab z n l f s = sym (tab-is n f (take n (tab l f)) z (length-take-le n (tab l f) (rw (length-tab l f) s)) (λ i j. sym (getD-take n (tab l f) i z j ∙ getD-tab l f i z (omega arith))))
 
   pub fetch-step : (g : Guest) (b : List ℕ) → ltb (g .0) (d .state .settings .guests) ≡ true
-      → step d (of-guest g (fetch b)) ≡ (record { answer = Fetched (fetchCount (d .state) g (length b)); buffer = fetchBytes (d .state) g (fetchCount (d .state) g (length b)) b }, device (faultsDropped (d .state) (g .0) (fetchCount (d .state) g (length b))) (d .table))
+      → step d (of-guest g (fetch b)) ≡ (record { answer = Fetched (fetchCount (d .state) g (length b)); buffer = fetchBytes (d .state) g (fetchCount (d .state) g (length b)) b }, device (faultsDropped (d .state) g (fetchCount (d .state) g (length b))) (d .table))
   fetch-step g b l =
       sound-step d (of-guest g (fetch b)) (unfold configOf in l) h
       ∙ unfold caller rules.performed work rule jobRule in
@@ -222,8 +222,8 @@ module _ (d : Device) (h : sound d ≡ true) (k : Shaped (d .state)) where
       bytes : fetchedInto n (part (configOf (d .state)) g (read d) .log) b ≡ fetchBytes (d .state) g n b
       bytes = ap (λ (q : Log). fetchedInto n q b) log-is ∙ unfold fetchedInto fetchBytes in ap (λ (q : List Fault). bytesOf q ++ drop (faultSize * n) b) (take-tab noFault n (getD (d .state .logged) (g .0) 0) (λ j. faultAt (d .state) (maxFaults * g .0 + j)) (min-le-left (getD (d .state .logged) (g .0) 0) (length b / faultSize)))
 
-      kept-device : write (configOf (d .state)) (replace (configOf (d .state)) g (withLog (fetchedFrom n (part (configOf (d .state)) g (read d) .log)) (part (configOf (d .state)) g (read d))) (read d)) ≡ device (faultsDropped (d .state) (g .0) n) (d .table)
-      kept-device = sym (ap (λ (v : Device). device (faultsDropped (v .state) (g .0) n) (v .table)) (written d h k) ∙ fetch-written (configOf (d .state)) (kept-is d h k) (read d) (whole d h k) g below n)
+      kept-device : write (configOf (d .state)) (replace (configOf (d .state)) g (withLog (fetchedFrom n (part (configOf (d .state)) g (read d) .log)) (part (configOf (d .state)) g (read d))) (read d)) ≡ device (faultsDropped (d .state) g n) (d .table)
+      kept-device = sym (ap (λ (v : Device). device (faultsDropped (v .state) g n) (v .table)) (written d h k) ∙ fetch-written (configOf (d .state)) (kept-is d h k) (read d) (whole d h k) g below n)
 
-      pair : _≡_ {A = List ℕ × Device} (fetchedInto n (part (configOf (d .state)) g (read d) .log) b, write (configOf (d .state)) (replace (configOf (d .state)) g (withLog (fetchedFrom n (part (configOf (d .state)) g (read d) .log)) (part (configOf (d .state)) g (read d))) (read d))) (fetchBytes (d .state) g n b, device (faultsDropped (d .state) (g .0) n) (d .table))
+      pair : _≡_ {A = List ℕ × Device} (fetchedInto n (part (configOf (d .state)) g (read d) .log) b, write (configOf (d .state)) (replace (configOf (d .state)) g (withLog (fetchedFrom n (part (configOf (d .state)) g (read d) .log)) (part (configOf (d .state)) g (read d))) (read d))) (fetchBytes (d .state) g n b, device (faultsDropped (d .state) g n) (d .table))
       pair = rw (bytes, kept-device)

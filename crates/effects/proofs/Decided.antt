@@ -39,7 +39,7 @@ use Rattle.lookups.proofs.Outcomes.{found-at, found-nothing}
 use Rattle.logging.specs.Changes.{faultLogged}
 use Rattle.attachments.specs.Search.{indexOf}
 use Rattle.fault_records.proofs.Laws.{length-fault, fault-whole}
-use Rattle.effects.specs.Flat.{placeOfEndpoint, answerOf, decisionAt, afterAccess, fetchBytes}
+use Rattle.effects.specs.Flat.{placeOfEndpoint, answerOf, decisionAt, afterAccess, fetchBytes, ownerAt}
 
 -- ACCESS
 
@@ -90,7 +90,7 @@ module _ (s : State) (a : Access) where
   logs-nothing (Refused e) h = refl
   logs-nothing (Blocked c) h = absurd (miss unlogged 5 tt h)
 
-  pub logs-fault : (c : Cause) (i owner : ℕ) (f : Fault) (t : State) → i ≡ placeOfEndpoint s (a .endpoint) → owner ≡ getD (s .owners) i 0 → f ≡ faultOf c a → t ≡ faultLogged s owner f → t ≡ afterAccess s a (Blocked c)
+  pub logs-fault : (c : Cause) (i : ℕ) (owner : Guest) (f : Fault) (t : State) → i ≡ placeOfEndpoint s (a .endpoint) → owner ≡ ownerAt s i → f ≡ faultOf c a → t ≡ faultLogged s owner f → t ≡ afterAccess s a (Blocked c)
   unfolding afterAccess
   logs-fault c i owner f t p q r u = rw (sym p, sym q, sym r) u
 

@@ -97,7 +97,7 @@ module _ (s : State) (ws : List ℕ) (g : Guest) (on : sound (device s ws) ≡ t
   pub reset-works : (r : State) (vs : List ℕ) → device r vs ≡ resetFlat (device s ws) g → (record { answer = Done; buffer = [] }, device r vs) ≡ step (device s ws) (of-guest g reset)
   reset-works r vs x = ap (λ (y : Device). (record { answer = Done; buffer = [] }, y)) x ∙ sym (reset-step (device s ws) on k g below)
 
-  pub fetch-works : (b c : List ℕ) (n : ℕ) (r : State) → n ≡ fetchCount s g (length b) → c ≡ fetchBytes s g n b → r ≡ faultsDropped s (g .0) n
+  pub fetch-works : (b c : List ℕ) (n : ℕ) (r : State) → n ≡ fetchCount s g (length b) → c ≡ fetchBytes s g n b → r ≡ faultsDropped s g n
       → (record { answer = Fetched n; buffer = c }, device r ws) ≡ step (device s ws) (of-guest g (fetch b))
   fetch-works b c n r x y z = rw (y, z, x) (sym (fetch-step (device s ws) on k g b below))
 

@@ -38,7 +38,7 @@ use Rattle.rules.proofs.Writing.{kept}
 use Rattle.removal.specs.Removed.{within}
 use Rattle.attachments.specs.Changes.{attachedAt}
 use Rattle.attachments.specs.Search.{indexOf}
-use Rattle.effects.specs.Flat.{device, isAttached, existsFlat, removed, left, entered, moved}
+use Rattle.effects.specs.Flat.{device, isAttached, existsFlat, removed, left, entered, moved, noDomain}
 use Rattle.effects.proofs.Flat.{with-same, with-kept}
 use Rattle.effects.proofs.Places.{owner-at, attachment-at, attached-at}
 use Rattle.effects.proofs.Written.{withAtts, withRecs, attached-written, exists-written, removed-written}
@@ -172,7 +172,7 @@ module _ (c : Config) (k : kept c ≡ c) (w : World) (h : Whole c w) (g : Guest)
       (rw (detached-state, exists-after none dom)
       (go (exists dom (attachedAs e none (own c g .endpoints) (part c g w .attachments)))))
     where
-      detached-state : attachedAt (write c w .state) (indexOf (e .0) (c .endpoints)) 0 0 ≡ stateOf c (withAtts (set (w .attachments) (indexOf (e .0) (c .endpoints)) none) w)
+      detached-state : attachedAt (write c w .state) (indexOf (e .0) (c .endpoints)) 0 noDomain ≡ stateOf c (withAtts (set (w .attachments) (indexOf (e .0) (c .endpoints)) none) w)
       detached-state = unfold write in attached-written c w (indexOf (e .0) (c .endpoints)) none in-atts
 
       fewer : removed (device (stateOf c (withAtts (set (w .attachments) (indexOf (e .0) (c .endpoints)) none) w)) (write c w .table)) (keyOf g dom) (keyOf g dom) 0 topAddress
@@ -206,7 +206,7 @@ module _ (c : Config) (k : kept c ≡ c) (w : World) (h : Whole c w) (g : Guest)
       unfold entered enter in
       (state ∙ sym (ap (λ (v : World). write c v) (replace-attachments c w h g (attachedAs e (some dom) (own c g .endpoints) (part c g w .attachments)))))
     where
-      state : device (attachedAt (write c w .state) (indexOf (e .0) (c .endpoints)) 1 (dom .0)) (write c w .table) ≡ write c (withAtts (weaveBy (g .0) (c .owners) (w .attachments) (attachedAs e (some dom) (own c g .endpoints) (part c g w .attachments))) w)
+      state : device (attachedAt (write c w .state) (indexOf (e .0) (c .endpoints)) 1 dom) (write c w .table) ≡ write c (withAtts (weaveBy (g .0) (c .owners) (w .attachments) (attachedAs e (some dom) (own c g .endpoints) (part c g w .attachments))) w)
       state = rw (changed (some dom)) (unfold write in rw (attached-written c w (indexOf (e .0) (c .endpoints)) (some dom) in-atts))
 
   -- out of one domain and into another

@@ -146,7 +146,7 @@ module _ (c : Config) (w : World) (h : Whole c w) (g : ℕ) (m : g < c .settings
   unchanged : withLogs (set (w .logs) g (logOf w g)) w ≡ w
   unchanged = rw (set-getD (w .logs) g noLog)
 
-  pub logged-written : (f : Fault) → faultLogged (stateOf c w) g f ≡ stateOf c (withLogs (set (w .logs) g (logged f (logOf w g))) w)
+  pub logged-written : (f : Fault) → faultLogged (stateOf c w) (guest g) f ≡ stateOf c (withLogs (set (w .logs) g (logged f (logOf w g))) w)
   logged-written f = unfold faultLogged logged in (rw (count-is, lost-is) (go (ltb (length (logOf w g .faults)) maxFaults) refl (ltb (logOf w g .lost) maxLost) refl))
     where
       go : (a : Bool) → ltb (length (logOf w g .faults)) maxFaults ≡ a → (b : Bool) → ltb (logOf w g .lost) maxLost ≡ b
@@ -159,7 +159,7 @@ module _ (c : Config) (w : World) (h : Whole c w) (g : ℕ) (m : g < c .settings
 
   -- THE OLDEST FAULTS GONE
 
-  pub dropped-written : (k : ℕ) → faultsDropped (stateOf c w) g k ≡ stateOf c (withLogs (set (w .logs) g (fetchedFrom k (logOf w g))) w)
+  pub dropped-written : (k : ℕ) → faultsDropped (stateOf c w) (guest g) k ≡ stateOf c (withLogs (set (w .logs) g (fetchedFrom k (logOf w g))) w)
   dropped-written k =
       unfold faultsDropped fetchedFrom in
       (rw count-is (unfold stateOf in
@@ -175,7 +175,7 @@ module _ (c : Config) (w : World) (h : Whole c w) (g : ℕ) (m : g < c .settings
       rest : Log
       rest = record { faults = drop k (logOf w g .faults); lost = logOf w g .lost }
 
-      fewer : (q : Fault → ℕ) → q noFault ≡ 0 → shiftedAll g k (tab faultPlaces (λ i. q (faultPlaced w i))) ≡ tab faultPlaces (λ i. q (faultPlaced (next w g rest there) i))
+      fewer : (q : Fault → ℕ) → q noFault ≡ 0 → shiftedAll (guest g) k (tab faultPlaces (λ i. q (faultPlaced w i))) ≡ tab faultPlaces (λ i. q (faultPlaced (next w g rest there) i))
       fewer q z = tab-same faultPlaces _ _ (λ i l. unfold shifted in go i l (eqb (i / maxFaults) g) refl (ltb (i % maxFaults + k) maxFaults) refl)
         where
           all : List ℕ
@@ -197,7 +197,7 @@ module _ (c : Config) (w : World) (h : Whole c w) (g : ℕ) (m : g < c .settings
 
   -- A GUEST CLEARED
 
-  cleared-faults : (q : Fault → ℕ) → q noFault ≡ 0 → shiftedAll g maxFaults (tab faultPlaces (λ i. q (faultPlaced w i))) ≡ tab faultPlaces (λ i. q (faultPlaced (next w g noLog there) i))
+  cleared-faults : (q : Fault → ℕ) → q noFault ≡ 0 → shiftedAll (guest g) maxFaults (tab faultPlaces (λ i. q (faultPlaced w i))) ≡ tab faultPlaces (λ i. q (faultPlaced (next w g noLog there) i))
   cleared-faults q z = tab-same faultPlaces _ _ (λ i l. unfold shifted in go i l (eqb (i / maxFaults) g) refl)
     where
       go : (i : ℕ) → i < faultPlaces → (a : Bool) → eqb (i / maxFaults) g ≡ a
@@ -206,7 +206,7 @@ module _ (c : Config) (w : World) (h : Whole c w) (g : ℕ) (m : g < c .settings
       go i l false x = getD-tab faultPlaces (λ j. q (faultPlaced w j)) i 0 l ∙ ap q (sym (other-place w g noLog there i (eqb-false _ g x)))
 
   cleared-places : (q : Attachment → ℕ) → q none ≡ 0
-      → zeroedOf (length (c .endpoints)) g (tab maxEndpoints (λ i. getD (c .owners) i 0)) (tab maxEndpoints (λ i. q (getD (w .attachments) i none)))
+      → zeroedOf (length (c .endpoints)) (guest g) (tab maxEndpoints (λ i. getD (c .owners) i 0)) (tab maxEndpoints (λ i. q (getD (w .attachments) i none)))
       ≡ tab maxEndpoints (λ i. q (getD (weaveBy g (c .owners) (w .attachments) (replicate (length (pickBy g (c .owners) (w .attachments))) none)) i none))
   cleared-places q z = tab-same maxEndpoints _ _ (λ i l. unfold zeroOf in (rw (getD-tab maxEndpoints (λ j. getD (c .owners) j 0) i 0 l, getD-tab maxEndpoints (λ j. q (getD (w .attachments) j none)) i 0 l) (go i (ltb i (length (c .endpoints))) refl)))
     where
@@ -226,7 +226,7 @@ module _ (c : Config) (w : World) (h : Whole c w) (g : ℕ) (m : g < c .settings
           ap q (List·getD-eq-default (w .attachments) none (omega (arith, size, ltb-false))
           ∙ sym (List·getD-eq-default new none (omega (arith, length-weave g (c .owners) (w .attachments) (replicate (length (pickBy g (c .owners) (w .attachments))) none), size, ltb-false))))
 
-  pub cleared-written : guestCleared (stateOf c w) g ≡ stateOf c (withAtts (weaveBy g (c .owners) (w .attachments) (replicate (length (pickBy g (c .owners) (w .attachments))) none)) (withLogs (set (w .logs) g noLog) w))
+  pub cleared-written : guestCleared (stateOf c w) (guest g) ≡ stateOf c (withAtts (weaveBy g (c .owners) (w .attachments) (replicate (length (pickBy g (c .owners) (w .attachments))) none)) (withLogs (set (w .logs) g noLog) w))
   cleared-written =
       unfold guestCleared stateOf in
       (rw (

@@ -317,7 +317,7 @@ module _ (c : Config) (k : kept c ≡ c) (w : World) (h : Whole c w) (g : Guest)
       new : World
       new = record { attachments = weaveBy (g .0) (c .owners) (w .attachments) (replicate (length (part c g w .attachments)) none); records = w .records; logs = set (w .logs) (g .0) noLog }
 
-      cleared : guestCleared (write c w .state) (g .0) ≡ stateOf c new
+      cleared : guestCleared (write c w .state) g ≡ stateOf c new
       cleared = unfold write part in cleared-written c w h (g .0) m
 
       fewer : removed (device (stateOf c new) (write c w .table)) (g .0 * domainSpan) (g .0 * domainSpan + (domainSpan - 1)) 0 topAddress ≡ write c (withRecs (keep (λ r. not (within (g .0 * domainSpan) (g .0 * domainSpan + (domainSpan - 1)) 0 topAddress r)) (w .records)) new)
@@ -328,8 +328,8 @@ module _ (c : Config) (k : kept c ≡ c) (w : World) (h : Whole c w) (g : Guest)
   replace-log : (l : Log) → replace c g (withLog l (part c g w)) w ≡ withLogs (set (w .logs) (g .0) l) w
   replace-log l = unfold replace in rw (attachments-same c w h g, records-same c w h g)
 
-  pub fault-written : (f : Fault) → device (faultLogged (write c w .state) (g .0) f) (write c w .table) ≡ write c (replace c g (withLog (logged f (part c g w .log)) (part c g w)) w)
+  pub fault-written : (f : Fault) → device (faultLogged (write c w .state) g f) (write c w .table) ≡ write c (replace c g (withLog (logged f (part c g w .log)) (part c g w)) w)
   fault-written f = rw (replace-log (logged f (part c g w .log))) (unfold write part in rw (logged-written c w h (g .0) m f))
 
-  pub fetch-written : (n : ℕ) → device (faultsDropped (write c w .state) (g .0) n) (write c w .table) ≡ write c (replace c g (withLog (fetchedFrom n (part c g w .log)) (part c g w)) w)
+  pub fetch-written : (n : ℕ) → device (faultsDropped (write c w .state) g n) (write c w .table) ≡ write c (replace c g (withLog (fetchedFrom n (part c g w .log)) (part c g w)) w)
   fetch-written n = rw (replace-log (fetchedFrom n (part c g w .log))) (unfold write part in rw (dropped-written c w h (g .0) m n))

@@ -18,7 +18,7 @@ use Rattle.rules.specs.declared.Fault.{Fault}
 use Rattle.rules.specs.Sizes.{maxGuests, maxEndpoints, recordWords, tableWords, maxFaults, faultPlaces}
 use Rattle.rules.specs.Configuration.{share, windowFirst, windowLast}
 use Rattle.rules.specs.Table.{records, words, tableOf}
-use Rattle.rules.specs.State.{Log, World, Device, noFault, noLog, configOf, attachment, attachmentAt, faultAt, logAt, read, trimmed, flagOf, numberOf, faultPlaced, stateOf}
+use Rattle.rules.specs.State.{Log, World, Device, noFault, noLog, configOf, attachment, attachmentAt, domainAt, faultAt, logAt, read, trimmed, flagOf, numberOf, faultPlaced, stateOf}
 use Rattle.rules.specs.Handlers.{outside}
 use Rattle.rules.specs.Sound.{guest, attachmentGood, zeroFrom, faultZero, faultPlaceGood, sound}
 use Rattle.rules.proofs.Words.{length-records, words-split}
@@ -68,7 +68,7 @@ module _ (d : Device) (h : sound d ≡ true) (k : Shaped (d .state)) where
   pub small-count : s .listed ≤ maxEndpoints
   small-count = omega (arith, sound-listed d h, sound-good d h .few)
 
-  flag-of : (flag n : ℕ) → attachmentGood (configOf s) flag n ≡ true → (flagOf (attachment flag n) ≡ flag) × (numberOf (attachment flag n) ≡ n)
+  flag-of : (flag n : ℕ) → attachmentGood (configOf s) flag (record { 0 = n }) ≡ true → (flagOf (attachment flag n) ≡ flag) × (numberOf (attachment flag n) ≡ n)
   unfolding attachmentGood
   flag-of flag n g = go (or-cases _ _ g)
     where
@@ -79,7 +79,7 @@ module _ (d : Device) (h : sound d ≡ true) (k : Shaped (d .state)) where
           let none-domain = eqb-true n 0 (both-right (eqb flag 0) _ a) in
           (rw (none-flag), rw (none-flag, none-domain))
 
-  at-listed : (i : ℕ) → i < s .listed → attachmentGood (configOf s) (getD (s .attached) i 0) (getD (s .domains) i 0) ≡ true
+  at-listed : (i : ℕ) → i < s .listed → attachmentGood (configOf s) (getD (s .attached) i 0) (domainAt s i) ≡ true
   at-listed i l = facts .places .attachments i l
 
   attached-back : tab maxEndpoints (λ i. flagOf (getD (tab (s .listed) (attachmentAt s)) i none)) ≡ s .attached

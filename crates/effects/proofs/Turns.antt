@@ -17,22 +17,22 @@ use Rattle.removal.specs.Removed.{keptOf, removedWords}
 use Rattle.state.specs.Fields.{withLive}
 use Rattle.attachments.specs.Changes.{attachedAt}
 use Rattle.resets.specs.Changes.{guestCleared}
-use Rattle.effects.specs.Flat.{device, worked, settled, placeOfEndpoint, existsFlat, removed, left, entered, moved, attachStatus, attachFlat, detachStatus, detachFlat, resetFlat}
+use Rattle.effects.specs.Flat.{device, worked, settled, placeOfEndpoint, existsFlat, removed, left, entered, moved, attachStatus, attachFlat, detachStatus, detachFlat, resetFlat, noDomain}
 
 pub remove-turn : (s : State) (ws vs : List ℕ) (low high a b n : ℕ) → n ≡ length (keptOf (s .live) low high a b ws) → vs ≡ removedWords (s .live) low high a b ws → device (withLive n s) vs ≡ removed (device s ws) low high a b
 unfolding removed
 remove-turn s ws vs low high a b n e f = rw (e, f)
 
-pub left-stays : (s t : State) (ws : List ℕ) (g : Guest) (i : ℕ) (d : Domain) (b : Bool) → t ≡ attachedAt s i 0 0 → b ≡ existsFlat t g d → b ≡ true → device t ws ≡ left (device s ws) g i d
+pub left-stays : (s t : State) (ws : List ℕ) (g : Guest) (i : ℕ) (d : Domain) (b : Bool) → t ≡ attachedAt s i 0 noDomain → b ≡ existsFlat t g d → b ≡ true → device t ws ≡ left (device s ws) g i d
 unfolding left
 left-stays s t ws g i d b e f h = rw (sym e, sym f, h)
 
-pub left-goes : (s t r : State) (ws vs : List ℕ) (g : Guest) (i : ℕ) (d : Domain) (b : Bool) (key : ℕ) → t ≡ attachedAt s i 0 0 → b ≡ existsFlat t g d → b ≡ false → key ≡ keyOf g d
+pub left-goes : (s t r : State) (ws vs : List ℕ) (g : Guest) (i : ℕ) (d : Domain) (b : Bool) (key : ℕ) → t ≡ attachedAt s i 0 noDomain → b ≡ existsFlat t g d → b ≡ false → key ≡ keyOf g d
     → device r vs ≡ removed (device t ws) key key 0 topAddress → device r vs ≡ left (device s ws) g i d
 unfolding left
 left-goes s t r ws vs g i d b key e f h k x = x ∙ rw (sym e, sym f, h, k)
 
-pub moved-new : (s t : State) (ws : List ℕ) (g : Guest) (i : ℕ) (d : Domain) → t ≡ attachedAt s i 1 (d .0) → (getD (s .attached) i 0 ≡ 1 → ⊥) → device t ws ≡ moved (device s ws) g i d
+pub moved-new : (s t : State) (ws : List ℕ) (g : Guest) (i : ℕ) (d : Domain) → t ≡ attachedAt s i 1 d → (getD (s .attached) i 0 ≡ 1 → ⊥) → device t ws ≡ moved (device s ws) g i d
 unfolding moved entered
 moved-new s t ws g i d e n = rw (ne-eqb (getD (s .attached) i 0) 1 n, e)
 
@@ -41,7 +41,7 @@ unfolding moved
 moved-here s ws g i d e f = rw (eq-eqb (getD (s .attached) i 0) 1 e, eq-eqb (getD (s .domains) i 0) (d .0) f)
 
 pub moved-over : (s r t : State) (ws vs : List ℕ) (g : Guest) (i : ℕ) (d : Domain) → getD (s .attached) i 0 ≡ 1 → (getD (s .domains) i 0 ≡ d .0 → ⊥)
-    → device r vs ≡ left (device s ws) g i (record { 0 = getD (s .domains) i 0 }) → t ≡ attachedAt r i 1 (d .0) → device t vs ≡ moved (device s ws) g i d
+    → device r vs ≡ left (device s ws) g i (record { 0 = getD (s .domains) i 0 }) → t ≡ attachedAt r i 1 d → device t vs ≡ moved (device s ws) g i d
 unfolding moved entered
 moved-over s r t ws vs g i d e n x y = rw (eq-eqb (getD (s .attached) i 0) 1 e, ne-eqb (getD (s .domains) i 0) (d .0) n, sym x, y)
 
@@ -69,6 +69,6 @@ module _ (s : State) (ws : List ℕ) (g : Guest) (dom : Domain) (e : Endpoint) (
   unfolding detachFlat
   detach-works r vs x h y = settled-works n _ (device s ws) _ (device r vs) (x ∙ ap (λ j. detachStatus s g dom j z) at) h (y ∙ ap (λ j. left (device s ws) g j dom) at)
 
-pub reset-turn : (s t r : State) (ws vs : List ℕ) (g : Guest) (low high : ℕ) → t ≡ guestCleared s (g .0) → low ≡ g .0 * domainSpan → high ≡ low + (domainSpan - 1) → device r vs ≡ removed (device t ws) low high 0 topAddress → device r vs ≡ resetFlat (device s ws) g
+pub reset-turn : (s t r : State) (ws vs : List ℕ) (g : Guest) (low high : ℕ) → t ≡ guestCleared s g → low ≡ g .0 * domainSpan → high ≡ low + (domainSpan - 1) → device r vs ≡ removed (device t ws) low high 0 topAddress → device r vs ≡ resetFlat (device s ws) g
 unfolding resetFlat
 reset-turn s t r ws vs g low high e a b x = x ∙ rw (e, b, a)

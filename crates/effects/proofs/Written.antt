@@ -51,7 +51,7 @@ set-tab m f g i v e h = sym (tab-is m g (set (tab m f) i v) 0 (length-set (tab m
 
 -- ATTACHMENTS
 
-pub attached-written : (c : Config) (w : World) (i : ℕ) (a : Attachment) → i < length (w .attachments) → attachedAt (stateOf c w) i (flagOf a) (numberOf a) ≡ stateOf c (withAtts (set (w .attachments) i a) w)
+pub attached-written : (c : Config) (w : World) (i : ℕ) (a : Attachment) → i < length (w .attachments) → attachedAt (stateOf c w) i (flagOf a) (record { 0 = numberOf a }) ≡ stateOf c (withAtts (set (w .attachments) i a) w)
 attached-written c w i a l =
     unfold attachedAt stateOf in
     rw (field flagOf, field numberOf)

@@ -21,7 +21,7 @@ use Rattle.rules.specs.declared.Cause.the-variants.{Unattached, Unmapped}
 use Rattle.rules.specs.declared.Access.{Access}
 use Rattle.rules.specs.Configuration.{share}
 use Rattle.rules.specs.Table.{keyOf, records, overlap}
-use Rattle.rules.specs.State.{Device, configOf, faultAt}
+use Rattle.rules.specs.State.{Device, configOf, faultAt, domainAt}
 use Rattle.rules.specs.Guests.{own, recordsOf}
 use Rattle.rules.specs.Requests.{OK, DEVERR}
 use Rattle.rules.specs.Handlers.{statusOf, outside, attachChain, detachChain, formSteps, mapChain, straddles, unmapChain}
@@ -57,8 +57,12 @@ ownedAt s g i = ltb i (s .listed) && eqb (getD (s .owners) i 0) (g .0)
 abbrev pub isAttached : State → ℕ → Bool
 isAttached s i = eqb (getD (s .attached) i 0) 1
 
-abbrev pub domainAt : State → ℕ → Domain
-domainAt s i = record { 0 = getD (s .domains) i 0 }
+abbrev pub ownerAt : State → ℕ → Guest
+ownerAt s i = record { 0 = getD (s .owners) i 0 }
+
+-- "0 where unattached"
+abbrev pub noDomain : Domain
+noDomain = record { 0 = 0 }
 
 unfoldable pub existsFlat : State → Guest → Domain → Bool
 existsFlat s g d = anyBelow (min (length (s .owners)) (min (length (s .attached)) (length (s .domains)))) (belongs (s .owners) (s .attached) (s .domains) g d)
@@ -81,12 +85,12 @@ inserted d r = device (withLive (suc (d .state .live)) (d .state)) (insertedWord
 -- the endpoint at place i leaves domain dom
 unfoldable pub left : Device → Guest → ℕ → Domain → Device
 left d g i dom =
-    cond (existsFlat (attachedAt (d .state) i 0 0) g dom) (device (attachedAt (d .state) i 0 0) (d .table))
-    (removed (device (attachedAt (d .state) i 0 0) (d .table)) (keyOf g dom) (keyOf g dom) 0 topAddress)
+    cond (existsFlat (attachedAt (d .state) i 0 noDomain) g dom) (device (attachedAt (d .state) i 0 noDomain) (d .table))
+    (removed (device (attachedAt (d .state) i 0 noDomain) (d .table)) (keyOf g dom) (keyOf g dom) 0 topAddress)
 
 -- and enters one
 unfoldable pub entered : Device → ℕ → Domain → Device
-entered d i dom = device (attachedAt (d .state) i 1 (dom .0)) (d .table)
+entered d i dom = device (attachedAt (d .state) i 1 dom) (d .table)
 
 unfoldable pub moved : Device → Guest → ℕ → Domain → Device
 moved d g i dom =
@@ -141,7 +145,7 @@ unmapFlat d g dom a b reserved = settled (unmapStatus d g dom a b reserved) d (r
 -- RESET
 
 unfoldable pub resetFlat : Device → Guest → Device
-resetFlat d g = removed (device (guestCleared (d .state) (g .0)) (d .table)) (g .0 * domainSpan) (g .0 * domainSpan + (domainSpan - 1)) 0 topAddress
+resetFlat d g = removed (device (guestCleared (d .state) g) (d .table)) (g .0 * domainSpan) (g .0 * domainSpan + (domainSpan - 1)) 0 topAddress
 
 -- ACCESS
 
@@ -167,7 +171,7 @@ afterAccess s a (Served n) = s
 afterAccess s a (Through x) = s
 afterAccess s a (Fetched n) = s
 afterAccess s a (Refused e) = s
-afterAccess s a (Blocked c) = faultLogged s (getD (s .owners) (placeOfEndpoint s (a .endpoint)) 0) (faultOf c a)
+afterAccess s a (Blocked c) = faultLogged s (ownerAt s (placeOfEndpoint s (a .endpoint))) (faultOf c a)
 
 -- FETCH
 

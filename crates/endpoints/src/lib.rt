@@ -8,6 +8,7 @@ ghost use Rattle.effects.specs.Flat.{device, attachStatus, attachFlat, detachSt
 ghost use Rattle.effects.specs.Outcome.{outcome};
 use effects::Handled;
 use rules::Domain;
+use rules::DomainRange;
 use rules::Endpoint;
 use rules::Guest;
 use rules::State;
@@ -27,11 +28,11 @@ fn owned_at(n: usize, owners: &[u8], g: Guest, i: usize) -> bool
     (i < n) & (owners[i] == g.0)
 }
 
-// Whether x lies outside the numbers from a to b.
-fn is_outside(a: u32, b: u32, x: u32) -> bool
-    ensures { λ r. ⌜ r ≡ outside a b x ⌝ }
+// Whether domain d lies outside the range.
+fn is_outside(range: DomainRange, d: Domain) -> bool
+    ensures { λ r. ⌜ r ≡ outside (range .start) (range .end) (d .0) ⌝ }
 {
-    (x < a) | (b < x)
+    (d.0 < range.start) | (range.end < d.0)
 }
 
 // The status of ATTACH, by what its steps' tests give.
@@ -56,7 +57,7 @@ fn attach_status(s: State, g: Guest, d: Domain, i: usize, reserved: u64) -> u8
 {
     let settings = s.settings;
     let owned = owned_at(s.listed, &s.owners, g, i);
-    let beyond = is_outside(settings.domains.start, settings.domains.end, d.0);
+    let beyond = is_outside(settings.domains, d);
     first_attach(reserved != 0, !owned, beyond)
 }
 

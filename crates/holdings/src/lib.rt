@@ -10,18 +10,11 @@ use rules::sizes::DOMAIN_SPAN;
 use table::bounded;
 use table::get;
 
-// The same number.
-fn wide(x: u8) -> u64
-    ensures { λ r. ⌜ r ≡ x ⌝ }
-{
-    x as u64
-}
-
 // Whether r is a record of guest g.
 fn is_of(r: Mapping, g: Guest) -> bool
     ensures { λ b. ⌜ b ≡ eqb (guestOf r) (g .0) ⌝ }
 {
-    r.key / DOMAIN_SPAN == wide(g.0)
+    r.key / DOMAIN_SPAN == g.0 as u64
 }
 
 // How many of the first live records are of guest g.

@@ -11,7 +11,7 @@ use rules::sizes::MAX_LOST;
 
 // The state with a fault logged for a guest: in its log where there is room, else in its lost count.
 pub fn log_fault(s: State, g: Guest, f: Fault) -> State
-    ensures { λ r. ⌜ r ≡ faultLogged s (g .0) f ⌝ }
+    ensures { λ r. ⌜ r ≡ faultLogged s g f ⌝ }
 {
     let guest = g.0 as usize;
     if guest >= MAX_GUESTS {

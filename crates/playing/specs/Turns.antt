@@ -10,6 +10,7 @@ use Rattle.rules.specs.declared.Endpoint.{Endpoint}
 use Rattle.rules.specs.declared.State.{State}
 use Rattle.rules.specs.State.{Device, configOf, zeroState}
 use Rattle.rules.specs.Device.{Reply, SetUp, step, setUp, request, access-by, reset-of, fetch-for}
+use Rattle.state.specs.Fields.{withSettings}
 use Rattle.plain_lines.specs.Plain.{letterS, letterZ, numberLine}
 use Rattle.lines.specs.Lines.{requestLine, accessLine}
 use Rattle.fetch_lines.specs.Lines.{fetchRoom, fetchLines}
@@ -19,7 +20,7 @@ use Rattle.items.specs.declared.Item.{Item}
 use Rattle.items.specs.declared.Item.the-variants.{Cut, Wrong, NamedGuest, NamedEndpoint, Start, Request, Access, Reset, Fetch}
 use Rattle.playing.specs.declared.player.Player.{Player}
 use Rattle.items.specs.Items.{front, sizeOf, requestBytes}
-use Rattle.playing.specs.Naming.{withSettings, guestNamed, endpointNamed, rangesNamed}
+use Rattle.playing.specs.Naming.{guestNamed, endpointNamed, rangesNamed}
 
 -- what a record leaves: the player, the table, the bytes read (0: no record was worked) and printed, and whether the journal is bad here
 pub record Turn : Type 0 where

@@ -11,10 +11,10 @@ use rules::sizes::MAX_GUESTS;
 
 // The state with a guest's endpoints detached, its log empty and its lost count zero.
 pub fn clear_guest(s: State, g: Guest) -> State
-    ensures { λ r. ⌜ r ≡ guestCleared s (g .0) ⌝ }
+    ensures { λ r. ⌜ r ≡ guestCleared s g ⌝ }
 {
     let guest = g.0 as usize;
-    let mut next = detach_all(dropping::drop_faults(s, g, MAX_FAULTS), g.0);
+    let mut next = detach_all(dropping::drop_faults(s, g, MAX_FAULTS), g);
     if guest < MAX_GUESTS {
         next.logged[guest] = 0;
         next.lost[guest] = 0;

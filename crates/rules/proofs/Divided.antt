@@ -70,7 +70,7 @@ module _ (d : Device) (k : Common d) (parts : (g : ℕ) → g < d .state .settin
       subst (λ (a : Attachment). inRange (own c (guest 0)) a ≡ true) (getD-tab (s .listed) (attachmentAt s) i none l)
       (all-at (inRange (own c (guest 0))) (tab (s .listed) (attachmentAt s)) i none all-in-range (rw (length-tab (s .listed) (attachmentAt s)) l))
 
-  attachment-good : (flag x : ℕ) → flagGood flag x ≡ true → inRange (own c (guest 0)) (attachment flag x) ≡ true → attachmentGood c flag x ≡ true
+  attachment-good : (flag x : ℕ) → flagGood flag (record { 0 = x }) ≡ true → inRange (own c (guest 0)) (attachment flag x) ≡ true → attachmentGood c flag (record { 0 = x }) ≡ true
   unfolding flagGood attachmentGood inRange own
   attachment-good flag x f e = go (or-cases (eqb flag 1) _ f)
     where

@@ -14,7 +14,7 @@ use Rattle.rules.specs.declared.State.{State}
 use Rattle.rules.specs.Sizes.{maxGuests, maxEndpoints, maxRecords, recordWords, tableWords, maxFaults, maxLost, faultPlaces, domainSpan}
 use Rattle.rules.specs.Configuration.{Config, share, windowFirst, windowLast, shareAddress, settingsTests, listTests, goodSettings, goodLists, good}
 use Rattle.rules.specs.Table.{guestOf, before, apart}
-use Rattle.rules.specs.State.{Log, Device, configOf, read, faultAt}
+use Rattle.rules.specs.State.{Log, Device, configOf, domainAt, read, faultAt}
 use Rattle.rules.specs.Guests.{Own, Part, recordsOf}
 use Rattle.rules.specs.Sound.{guest, recordGood, recordPasses, attachmentGood, inRange, flagGood, faultGood, faultZero, faultUsed, faultPlaceGood, zeroFrom, frameTests, unusedTests, placeTests, logTests, recordTests, sound, partTests, commonTests}
 use Rattle.rules.proofs.Records.{mine}
@@ -126,7 +126,7 @@ unused-tests s h =
     closed (unusedTests s) (h .shares, (h .firsts, (h .lasts, (h .logged, (h .lost, (h .endpoints, (h .owners, (h .attached, (h .domains, tt)))))))))
 
 pub record Placed (s : State) : Type 0 where
-  pub attachments : (i : ℕ) → i < s .listed → attachmentGood (configOf s) (getD (s .attached) i 0) (getD (s .domains) i 0) ≡ true
+  pub attachments : (i : ℕ) → i < s .listed → attachmentGood (configOf s) (getD (s .attached) i 0) (domainAt s i) ≡ true
   pub counts : (g : ℕ) → g < s .settings .guests → getD (s .logged) g 0 ≤ maxFaults
   pub lost : (g : ℕ) → g < s .settings .guests → getD (s .lost) g 0 ≤ maxLost
   pub unused : Unused s
@@ -253,7 +253,7 @@ pub record Common (d : Device) : Type 0 where
   pub guests : all? (λ r. ltb (guestOf r) (d .state .settings .guests)) (read d .records) ≡ true
   pub upward : pairwise (λ r s. leb (guestOf r) (guestOf s)) (read d .records) ≡ true
   pub zeros : zeroFrom (recordWords * d .state .live) (d .table) ≡ true
-  pub flags : (i : ℕ) → i < d .state .listed → flagGood (getD (d .state .attached) i 0) (getD (d .state .domains) i 0) ≡ true
+  pub flags : (i : ℕ) → i < d .state .listed → flagGood (getD (d .state .attached) i 0) (domainAt (d .state) i) ≡ true
   pub unused : Unused (d .state)
   pub faults : (i : ℕ) → i < faultPlaces → (faultUsed (d .state) i || faultZero (faultAt (d .state) i)) ≡ true
 

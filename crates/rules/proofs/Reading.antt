@@ -48,7 +48,7 @@ module _ (d : Device) (h : sound d ≡ true) where
   pub sound-listed : length (configOf (d .state) .endpoints) ≡ d .state .listed
   sound-listed = facts .frame .listed
 
-  attached-in-range : (flag n : ℕ) (g : Guest) → attachmentGood config flag n ≡ true → inRange (own config g) (attachment flag n) ≡ true
+  attached-in-range : (flag n : ℕ) (g : Guest) → attachmentGood config flag (record { 0 = n }) ≡ true → inRange (own config g) (attachment flag n) ≡ true
   unfolding attachmentGood
   attached-in-range flag n g k = go (eqb flag 1) refl (or-cases (eqb flag 1 && not (outside (config .settings .domains .start) (config .settings .domains .end) n)) (eqb flag 0 && eqb n 0) k)
     where
@@ -123,7 +123,7 @@ module _ (d : Device) (h : sound d ≡ true) where
       }
 
   -- and what is no guest's part is as soundness asks
-  flag-good : (flag n : ℕ) → attachmentGood config flag n ≡ true → flagGood flag n ≡ true
+  flag-good : (flag n : ℕ) → attachmentGood config flag (record { 0 = n }) ≡ true → flagGood flag (record { 0 = n }) ≡ true
   unfolding attachmentGood flagGood
   flag-good flag n k = go (or-cases _ _ k)
     where

@@ -12,7 +12,7 @@ use Rattle.laws.proofs.Tables.{length-tab, getD-tab}
 use Rattle.rules.specs.declared.Fault.{Fault}
 use Rattle.rules.specs.Sizes.{maxGuests, maxEndpoints, maxFaults, faultPlaces}
 use Rattle.rules.specs.Configuration.{Config, share, windowFirst, windowLast}
-use Rattle.rules.specs.State.{Attachment, World, noFault, noLog, configOf, faultAt, trimmed, flagOf, numberOf, logOf, faultPlaced, stateOf, write}
+use Rattle.rules.specs.State.{Attachment, World, noFault, noLog, configOf, faultAt, trimmed, flagOf, numberOf, logOf, faultPlaced, stateOf, write, domainAt}
 use Rattle.rules.specs.Guests.{own, part}
 use Rattle.rules.specs.Sound.{guest, zeroFrom, flagGood, faultZero, faultUsed, sound}
 use Rattle.rules.proofs.Records.{before-upward}
@@ -40,12 +40,12 @@ module _ (c : Config) (w : World) (h : Whole c w) where
   good-c = good-facts c (h .config)
 
   -- an attachment's flag and number
-  written-flag : (a : Attachment) → flagGood (flagOf a) (numberOf a) ≡ true
+  written-flag : (a : Attachment) → flagGood (flagOf a) (record { 0 = numberOf a }) ≡ true
   unfolding flagGood
   written-flag none = refl
   written-flag (some d) = refl
 
-  flags-good : (i : ℕ) → i < length (c .endpoints) → flagGood (getD (stateOf c w .attached) i 0) (getD (stateOf c w .domains) i 0) ≡ true
+  flags-good : (i : ℕ) → i < length (c .endpoints) → flagGood (getD (stateOf c w .attached) i 0) (domainAt (stateOf c w) i) ≡ true
   unfolding stateOf
   flags-good i l =
       rw (getD-tab maxEndpoints (λ j. flagOf (getD (w .attachments) j none)) i 0 (omega (arith, l, good-c .few)), getD-tab maxEndpoints (λ j. numberOf (getD (w .attachments) j none)) i 0 (omega (arith, l, good-c .few)))

@@ -9,13 +9,14 @@ use lib.ListN.{length, getD, drop}
 use Rattle.laws.specs.Lists.{all?, every?, pairwise, below, firstFailing}
 use Rattle.rules.specs.declared.Guest.{Guest}
 use Rattle.rules.specs.declared.Settings.{Settings}
+use Rattle.rules.specs.declared.Domain.{Domain}
 use Rattle.rules.specs.declared.State.{State}
 use Rattle.rules.specs.declared.Mapping.{Mapping}
 use Rattle.rules.specs.declared.Fault.{Fault}
 use Rattle.rules.specs.Sizes.{maxRecords, recordWords, tableWords, maxFaults, faultPlaces, maxLost}
 use Rattle.rules.specs.Configuration.{Config, share, good}
 use Rattle.rules.specs.Table.{guestOf, domainOf, before, apart}
-use Rattle.rules.specs.State.{Attachment, World, Device, configOf, read, faultAt}
+use Rattle.rules.specs.State.{Attachment, World, Device, configOf, read, faultAt, domainAt}
 use Rattle.rules.specs.Guests.{Own, Part, own, part, recordsOf}
 use Rattle.rules.specs.Handlers.{outside, listed, recordSteps}
 
@@ -47,9 +48,9 @@ frameTests d =
 -- THE PLACES of guests and of endpoints
 
 -- "every attached endpoint's domain lies in the domain range and every unattached one holds 0"; the flag is 0 or 1
-unfoldable pub attachmentGood : Config → ℕ → ℕ → Bool
+unfoldable pub attachmentGood : Config → ℕ → Domain → Bool
 attachmentGood c flag d =
-    (eqb flag 1 && not (outside (c .settings .domains .start) (c .settings .domains .end) d)) || (eqb flag 0 && eqb d 0)
+    (eqb flag 1 && not (outside (c .settings .domains .start) (c .settings .domains .end) (d .0))) || (eqb flag 0 && eqb (d .0) 0)
 
 -- "Guest and endpoint places not in use are zero too"
 abbrev pub unusedTests : State → List Bool
@@ -68,7 +69,7 @@ unusedTests s =
 abbrev pub placeTests : State → List Bool
 placeTests s =
     -- "every attached endpoint's domain lies in the domain range and every unattached one holds 0"
-    below (s .listed) (λ i. attachmentGood (configOf s) (getD (s .attached) i 0) (getD (s .domains) i 0))
+    below (s .listed) (λ i. attachmentGood (configOf s) (getD (s .attached) i 0) (domainAt s i))
     -- "log counts are at most 16, lost counts at most 65,535"
     ∷ below (s .settings .guests) (λ g. leb (getD (s .logged) g 0) maxFaults)
     ∷ below (s .settings .guests) (λ g. leb (getD (s .lost) g 0) maxLost)
@@ -159,8 +160,8 @@ partTests o p =
     ∷ []
 
 -- an attached flag is 0 or 1, "and every unattached one holds 0"
-unfoldable pub flagGood : ℕ → ℕ → Bool
-flagGood flag d = eqb flag 1 || (eqb flag 0 && eqb d 0)
+unfoldable pub flagGood : ℕ → Domain → Bool
+flagGood flag d = eqb flag 1 || (eqb flag 0 && eqb (d .0) 0)
 
 -- what soundness asks besides, of what is no guest's part
 abbrev pub commonTests : Device → List Bool
@@ -173,7 +174,7 @@ commonTests d =
     -- "all other words are zero"
     ∷ zeroFrom (recordWords * d .state .live) (d .table)
     -- "every unattached one holds 0"
-    ∷ below (d .state .listed) (λ i. flagGood (getD (d .state .attached) i 0) (getD (d .state .domains) i 0))
+    ∷ below (d .state .listed) (λ i. flagGood (getD (d .state .attached) i 0) (domainAt (d .state) i))
     -- "unused places zero"
     ∷ every? (unusedTests (d .state))
     ∷ below faultPlaces (λ i. faultUsed (d .state) i || faultZero (faultAt (d .state) i))

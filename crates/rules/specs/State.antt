@@ -56,6 +56,10 @@ attachment flag d = cond (eqb flag 1) (some (record { 0 = d })) none
 abbrev pub attachmentAt : State → ℕ → Attachment
 attachmentAt s i = attachment (getD (s .attached) i 0) (getD (s .domains) i 0)
 
+-- the domain beside an attached flag
+abbrev pub domainAt : State → ℕ → Domain
+domainAt s i = record { 0 = getD (s .domains) i 0 }
+
 abbrev pub faultAt : State → ℕ → Fault
 faultAt s i =
     record {

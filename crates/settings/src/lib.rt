@@ -6,6 +6,7 @@ ghost use lib.Dec.{leb};
 ghost use Rattle.laws.specs.Lists.{below, sumBelow};
 ghost use Rattle.rules.specs.Sizes.{maxGuests};
 ghost use Rattle.rules.specs.Configuration.{share, windowFirst, windowLast, shareAddress, goodSettings};
+use rules::Guest;
 use rules::Settings;
 use rules::sizes::MAX_GUESTS;
 use rules::sizes::MAX_RECORDS;
@@ -28,15 +29,16 @@ fn windows_filled(s: Settings, n: usize) -> bool
 }
 
 // Whether guest g's window has no address in common with that of a guest below it.
-fn window_apart(s: Settings, g: usize) -> bool
-    requires { ⌜ g < maxGuests ⌝ }
-    ensures { λ r. ⌜ r ≡ below g (λ h. not (shareAddress s g h)) ⌝ }
+fn window_apart(s: Settings, g: Guest) -> bool
+    requires { ⌜ g .0 < maxGuests ⌝ }
+    ensures { λ r. ⌜ r ≡ below (g .0) (λ h. not (shareAddress s (g .0) h)) ⌝ }
 {
+    let guest = g.0 as usize;
     let firsts = s.firsts;
     let lasts = s.lasts;
     let mut ok = true;
-    for h in 0..g {
-        ok = !((firsts[g] <= lasts[h]) & (firsts[h] <= lasts[g])) & ok;
+    for h in 0..guest {
+        ok = !((firsts[guest] <= lasts[h]) & (firsts[h] <= lasts[guest])) & ok;
     }
     ok
 }
@@ -48,7 +50,7 @@ fn windows_apart(s: Settings, n: usize) -> bool
 {
     let mut ok = true;
     for g in 0..n {
-        ok = window_apart(s, g) & ok;
+        ok = window_apart(s, Guest(g as u8)) & ok;
     }
     ok
 }

@@ -11,6 +11,7 @@ use crate::named::SLOTS;
 use crate::named::is_named;
 use rules::Endpoint;
 use rules::Fault;
+use rules::Guest;
 use rules::sizes::FAULT_PLACES;
 use rules::sizes::MAX_FAULTS;
 use state::least;
@@ -20,11 +21,11 @@ fn fault_good<'a>(
     endpoints: &'a [u32],
     owners: &'a [u32],
     hints: &'a [u8; SLOTS],
-    g: u32,
+    g: Guest,
     f: Fault,
 ) -> bool
     requires { ⌜ (length (now owners) ≡ maxEndpoints) × (length (now endpoints) ≡ maxEndpoints) ⌝ }
-    ensures { λ r. ⌜ r ≡ faultGood (endpointsAlone (pickBy g (now (owners .entry)) (now (endpoints .entry)))) f ⌝ }
+    ensures { λ r. ⌜ r ≡ faultGood (endpointsAlone (pickBy (g .0) (now (owners .entry)) (now (endpoints .entry)))) f ⌝ }
 {
     let e = f.endpoint;
     ((f.reason == 1) | (f.reason == 2))
@@ -35,7 +36,7 @@ fn fault_good<'a>(
 fn faults_of<'a>(
     first: usize,
     n: usize,
-    g: u32,
+    g: Guest,
     endpoints: &'a [u32],
     owners: &'a [u32],
     hints: &'a [u8; SLOTS],
@@ -45,7 +46,7 @@ fn faults_of<'a>(
     addresses: &'a [u64; FAULT_PLACES],
 ) -> bool
     requires { ⌜ (first + n ≤ faultPlaces) × (length (now owners) ≡ maxEndpoints) × (length (now endpoints) ≡ maxEndpoints) ⌝ }
-    ensures { λ r. ⌜ r ≡ below n (λ j. faultGood (endpointsAlone (pickBy g (now (owners .entry)) (now (endpoints .entry)))) (faultIn (now (reasons .entry)) (now (flags .entry)) (now (sources .entry)) (now (addresses .entry)) (first + j))) ⌝ }
+    ensures { λ r. ⌜ r ≡ below n (λ j. faultGood (endpointsAlone (pickBy (g .0) (now (owners .entry)) (now (endpoints .entry)))) (faultIn (now (reasons .entry)) (now (flags .entry)) (now (sources .entry)) (now (addresses .entry)) (first + j))) ⌝ }
 {
     let mut ok = true;
     for j in 0..n {
@@ -64,7 +65,7 @@ fn faults_of<'a>(
 
 // Whether guest g's places are good, of which so many are in use: those with a fault of its own, and the others zero.
 pub(crate) fn log_good<'a>(
-    g: usize,
+    g: Guest,
     count: usize,
     endpoints: &'a [u32],
     owners: &'a [u32],
@@ -74,15 +75,15 @@ pub(crate) fn log_good<'a>(
     sources: &'a [u32; FAULT_PLACES],
     addresses: &'a [u64; FAULT_PLACES],
 ) -> bool
-    requires { ⌜ (g < maxGuests) × (length (now owners) ≡ maxEndpoints) × (length (now endpoints) ≡ maxEndpoints) ⌝ }
-    ensures { λ r. ⌜ r ≡ below maxFaults (λ j. placeGood count (pickBy g (now (owners .entry)) (now (endpoints .entry))) j (faultIn (now (reasons .entry)) (now (flags .entry)) (now (sources .entry)) (now (addresses .entry)) (maxFaults * g + j))) ⌝ }
+    requires { ⌜ (g .0 < maxGuests) × (length (now owners) ≡ maxEndpoints) × (length (now endpoints) ≡ maxEndpoints) ⌝ }
+    ensures { λ r. ⌜ r ≡ below maxFaults (λ j. placeGood count (pickBy (g .0) (now (owners .entry)) (now (endpoints .entry))) j (faultIn (now (reasons .entry)) (now (flags .entry)) (now (sources .entry)) (now (addresses .entry)) (maxFaults * g .0 + j))) ⌝ }
 {
     let held = least(count, MAX_FAULTS);
-    let first = MAX_FAULTS * g;
+    let first = MAX_FAULTS * (g.0 as usize);
     faults_of(
         first,
         held,
-        g as u32,
+        g,
         endpoints,
         owners,
         hints,

@@ -17,6 +17,7 @@ use empty::zero_places;
 use held::log_good;
 use named::hints_of;
 use named::owners_among;
+use rules::Guest;
 use rules::sizes::FAULT_PLACES;
 use rules::sizes::MAX_ENDPOINTS;
 use rules::sizes::MAX_GUESTS;
@@ -41,7 +42,7 @@ fn places_good<'a>(
     for g in 0..MAX_GUESTS {
         let count = logged[g];
         ok = log_good(
-            g,
+            Guest(g as u8),
             count,
             endpoints,
             &listed,

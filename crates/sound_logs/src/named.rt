@@ -7,6 +7,7 @@ ghost use Rattle.rules.specs.Sizes.{maxGuests, maxEndpoints};
 ghost use Rattle.rules.specs.Handlers as handlers;
 ghost use Rattle.sound_logs.specs.Faults.{ownerAmong};
 use rules::Endpoint;
+use rules::Guest;
 use rules::sizes::MAX_ENDPOINTS;
 use rules::sizes::MAX_GUESTS;
 
@@ -23,10 +24,10 @@ const PLACES: u8 = MAX_ENDPOINTS as u8;
 const NO_GUEST: u32 = MAX_GUESTS as u32;
 
 // An endpoint's owner, or no guest's number where the endpoint is not listed.
-fn owner_or_none(listed: bool, owner: u8) -> u32
-    ensures { λ r. ⌜ r ≡ cond listed owner maxGuests ⌝ }
+fn owner_or_none(listed: bool, owner: Guest) -> u32
+    ensures { λ r. ⌜ r ≡ cond listed (owner .0) maxGuests ⌝ }
 {
-    if listed { owner as u32 } else { NO_GUEST }
+    if listed { owner.0 as u32 } else { NO_GUEST }
 }
 
 // The owners of the first n endpoints, and no guest's number at the places after them. Numbers as wide as an endpoint's, so
@@ -38,21 +39,23 @@ pub(crate) fn owners_among(n: usize, owners: &[u8]) -> [u32; MAX_ENDPOINTS]
     let mut out: [u32; MAX_ENDPOINTS] = [0; MAX_ENDPOINTS];
     for j in 0..MAX_ENDPOINTS {
         let o = owners[j];
-        out[j] = owner_or_none(j < n, o);
+        out[j] = owner_or_none(j < n, Guest(o));
     }
     out
 }
 
 // Whether e is an endpoint of guest g.
-fn is_listed<'a>(endpoints: &'a [u32], owners: &'a [u32], g: u32, e: Endpoint) -> bool
+fn is_listed<'a>(endpoints: &'a [u32], owners: &'a [u32], g: Guest, e: Endpoint) -> bool
     requires { ⌜ (length (now owners) ≡ maxEndpoints) × (length (now endpoints) ≡ maxEndpoints) ⌝ }
-    ensures { λ r. ⌜ r ≡ handlers.listed e (pickBy g (now (owners .entry)) (now (endpoints .entry))) ⌝ }
+    ensures { λ r. ⌜ r ≡ handlers.listed e (pickBy (g .0) (now (owners .entry)) (now (endpoints .entry))) ⌝ }
 {
+    let guest = g.0 as u32;
+    let number = e.0;
     let mut found = false;
     for j in 0..MAX_ENDPOINTS {
         let o = owners[j];
         let k = endpoints[j];
-        found = found | ((o == g) & (e.0 == k));
+        found = found | ((o == guest) & (number == k));
     }
     found
 }
@@ -75,16 +78,17 @@ pub(crate) fn is_named<'a>(
     endpoints: &'a [u32],
     owners: &'a [u32],
     hints: &'a [u8; SLOTS],
-    g: u32,
+    g: Guest,
     e: Endpoint,
 ) -> bool
     requires { ⌜ (length (now owners) ≡ maxEndpoints) × (length (now endpoints) ≡ maxEndpoints) ⌝ }
-    ensures { λ r. ⌜ r ≡ handlers.listed e (pickBy g (now (owners .entry)) (now (endpoints .entry))) ⌝ }
+    ensures { λ r. ⌜ r ≡ handlers.listed e (pickBy (g .0) (now (owners .entry)) (now (endpoints .entry))) ⌝ }
 {
+    let guest = g.0 as u32;
     let number = e.0;
     let slot = (number % DIVISOR) as usize;
     let j = (hints[slot] % PLACES) as usize;
-    if (owners[j] == g) & (endpoints[j] == number) {
+    if (owners[j] == guest) & (endpoints[j] == number) {
         return true;
     }
     is_listed(endpoints, owners, g, e)

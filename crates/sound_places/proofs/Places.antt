@@ -13,7 +13,7 @@ use Rattle.laws.proofs.Tables.{below-at, below-all}
 use Rattle.rules.specs.Sizes.{maxGuests, maxEndpoints, maxFaults, maxLost}
 use Rattle.rules.specs.declared.State.{State}
 use Rattle.rules.specs.Configuration.{share, windowFirst, windowLast}
-use Rattle.rules.specs.State.{configOf}
+use Rattle.rules.specs.State.{configOf, domainAt}
 use Rattle.rules.specs.Sound.{attachmentGood, placeTests}
 use Rattle.rules.proofs.Zeros.{zero-from, zero-past}
 use Rattle.rules.proofs.Groups.{Placed, place-facts, place-tests}
@@ -94,7 +94,7 @@ module _ (s : State) (a : Arrays s) (few : s .settings .guests ≤ maxGuests) (f
   counts g = leb (getD (s .logged) g 0) maxFaults && leb (getD (s .lost) g 0) maxLost
 
   abbrev attachment : ℕ → Bool
-  attachment i = attachmentGood (rangeAlone (s .settings .domains)) (getD (s .attached) i 0) (getD (s .domains) i 0)
+  attachment i = attachmentGood (rangeAlone (s .settings .domains)) (getD (s .attached) i 0) (domainAt s i)
 
   abbrev guests : ℕ → Bool
   guests = guestPlace (s .settings) (s .logged) (s .lost)

@@ -6,11 +6,15 @@ use lib.Dec.{leb, ltb, eqb}
 use lib.ListN.{getD}
 use Rattle.laws.specs.Lists.{every?}
 use Rattle.rules.specs.Sizes.{maxFaults, maxLost}
+use Rattle.rules.specs.declared.Guest.{Guest}
+use Rattle.rules.specs.declared.Endpoint.{Endpoint}
+use Rattle.rules.specs.declared.Domain.{Domain}
 use Rattle.rules.specs.declared.Settings.{Settings}
 use Rattle.rules.specs.declared.DomainRange.{DomainRange}
 use Rattle.rules.specs.declared.State.{State}
 use Rattle.rules.specs.Configuration.{Config, share, windowFirst, windowLast}
 use Rattle.rules.specs.Sound.{attachmentGood}
+use Rattle.rules.specs.State.{domainAt}
 use Rattle.state.specs.Pieces.{stateWith}
 
 -- a guest's numbers: in use, with log count and lost count within their limits, or zero
@@ -32,13 +36,13 @@ rangeAlone range =
     }
 
 -- an endpoint's numbers: in use, with a good attachment, or zero
-unfoldable pub endpointGood : DomainRange → Bool → ℕ → ℕ → ℕ → ℕ → Bool
-endpointGood range used endpoint owner flag d =
-    (used && attachmentGood (rangeAlone range) flag d) || (not used && every? (eqb endpoint 0 ∷ eqb owner 0 ∷ eqb flag 0 ∷ eqb d 0 ∷ []))
+unfoldable pub endpointGood : DomainRange → Bool → Endpoint → Guest → ℕ → Domain → Bool
+endpointGood range used e owner flag d =
+    (used && attachmentGood (rangeAlone range) flag d) || (not used && every? (eqb (e .0) 0 ∷ eqb (owner .0) 0 ∷ eqb flag 0 ∷ eqb (d .0) 0 ∷ []))
 
 abbrev pub endpointPlace : DomainRange → ℕ → List ℕ → List ℕ → List ℕ → List ℕ → ℕ → Bool
 endpointPlace range n endpoints owners attached domains i =
-    endpointGood range (ltb i n) (getD endpoints i 0) (getD owners i 0) (getD attached i 0) (getD domains i 0)
+    endpointGood range (ltb i n) (record { 0 = getD endpoints i 0 }) (record { 0 = getD owners i 0 }) (getD attached i 0) (record { 0 = getD domains i 0 })
 
 -- a state of these places alone: what soundness' tests of the places look at
 abbrev pub placesAlone : Settings → ℕ → List ℕ → List ℕ → List ℕ → List ℕ → List ℕ → List ℕ → State

@@ -5,22 +5,32 @@ ghost use Rattle.laws.specs.Lists.{below};
 ghost use Rattle.rules.specs.Sizes.{maxEndpoints};
 ghost use Rattle.rules.specs.Sound.{attachmentGood};
 ghost use Rattle.sound_places.specs.Places.{rangeAlone, endpointGood, endpointPlace};
+use rules::Domain;
 use rules::DomainRange;
+use rules::Endpoint;
+use rules::Guest;
 use rules::sizes::MAX_ENDPOINTS;
 
 // Whether an endpoint is attached to a domain of the range, or not attached and its domain 0.
-fn attachment_good(range: DomainRange, flag: u8, d: u32) -> bool
+fn attachment_good(range: DomainRange, flag: u8, d: Domain) -> bool
     ensures { λ r. ⌜ r ≡ attachmentGood (rangeAlone range) flag d ⌝ }
 {
-    ((flag == 1) & !((d < range.start) | (range.end < d))) | ((flag == 0) & (d == 0))
+    ((flag == 1) & !((d.0 < range.start) | (range.end < d.0))) | ((flag == 0) & (d.0 == 0))
 }
 
 // Whether an endpoint's numbers are good: in use, with a good attachment, or zero.
-fn endpoint_good(range: DomainRange, used: bool, endpoint: u32, owner: u8, flag: u8, d: u32) -> bool
-    ensures { λ r. ⌜ r ≡ endpointGood range used endpoint owner flag d ⌝ }
+fn endpoint_good(
+    range: DomainRange,
+    used: bool,
+    e: Endpoint,
+    owner: Guest,
+    flag: u8,
+    d: Domain,
+) -> bool
+    ensures { λ r. ⌜ r ≡ endpointGood range used e owner flag d ⌝ }
 {
     (used & attachment_good(range, flag, d))
-        | (!used & ((endpoint == 0) & ((owner == 0) & ((flag == 0) & (d == 0)))))
+        | (!used & ((e.0 == 0) & ((owner.0 == 0) & ((flag == 0) & (d.0 == 0)))))
 }
 
 // Whether this holds at every endpoint's place, where the first n are in use.
@@ -40,10 +50,10 @@ pub(crate) fn endpoints_good<'a>(
         ok = endpoint_good(
             range,
             i < n,
-            endpoints[i],
-            owners[i],
+            Endpoint(endpoints[i]),
+            Guest(owners[i]),
             attached[i],
-            domains[i],
+            Domain(domains[i]),
         )
             & ok;
     }

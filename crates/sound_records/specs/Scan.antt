@@ -5,6 +5,8 @@ use mathlib.Core.List.{List, [], _∷_}
 use lib.Dec.{leb, ltb, eqb}
 use lib.ListN.{length, getD, take}
 use Rattle.laws.specs.Lists.{pickBy, tab}
+use Rattle.rules.specs.declared.Guest.{Guest}
+use Rattle.rules.specs.declared.Domain.{Domain}
 use Rattle.rules.specs.declared.Settings.{Settings}
 use Rattle.rules.specs.declared.Mapping.{Mapping}
 use Rattle.rules.specs.Sizes.{maxGuests, maxEndpoints}
@@ -15,8 +17,8 @@ use Rattle.rules.specs.Handlers.{exists}
 use Rattle.forms.specs.Forms.{formGood}
 
 -- the attachments of guest g, among the first n endpoints
-abbrev pub attachmentsOf : ℕ → ℕ → List ℕ → List ℕ → List ℕ → List Attachment
-attachmentsOf g n owners attached domains = pickBy g (take n owners) (tab n (λ i. attachment (getD attached i 0) (getD domains i 0)))
+abbrev pub attachmentsOf : Guest → ℕ → List ℕ → List ℕ → List ℕ → List Attachment
+attachmentsOf g n owners attached domains = pickBy (g .0) (take n owners) (tab n (λ i. attachment (getD attached i 0) (getD domains i 0)))
 
 -- s may stand right after r: a higher first word, or the same and addresses past those of r
 unfoldable pub follows : Mapping → Mapping → Bool
@@ -26,9 +28,13 @@ follows r s = ltb (r .key) (s .key) || (eqb (r .key) (s .key) && ltb (r .end) (s
 unfoldable pub ownGood : Settings → Mapping → Bool
 ownGood s r = ltb (guestOf r) (s .guests) && formGood (s .mask) (s .input) (windowFirst s (guestOf r)) (windowLast s (guestOf r)) r
 
+-- a domain exists for a guest, by an attachment of one of the first n endpoints
+abbrev pub domainHeld : ℕ → List ℕ → List ℕ → List ℕ → Guest → Domain → Bool
+domainHeld n owners attached domains g d = exists d (attachmentsOf g n owners attached domains)
+
 -- step 1 of MAP passes: the record's domain exists for its guest
 unfoldable pub domainGood : ℕ → List ℕ → List ℕ → List ℕ → Mapping → Bool
-domainGood n owners attached domains r = exists (domainOf r) (attachmentsOf (guestOf r) n owners attached domains)
+domainGood n owners attached domains r = domainHeld n owners attached domains (guest (guestOf r)) (domainOf r)
 
 -- each record's own tests, its place after the one before, p, and its domain where that is not the domain of p;
 -- the first record has none before it

@@ -3,7 +3,10 @@ ghost use mathlib.Core.Path.{_≡_};
 ghost use Prim.Native.Nat.{_≤_, _<_};
 ghost use lib.ListN.{length};
 ghost use Rattle.rules.specs.Sizes.{maxEndpoints};
+ghost use Rattle.rules.specs.Table.{domainOf};
 ghost use Rattle.sound_records.specs.Scan as spec;
+use rules::Domain;
+use rules::Guest;
 use rules::Mapping;
 use rules::sizes::DOMAIN_SPAN;
 use rules::sizes::MAX_ENDPOINTS;
@@ -14,48 +17,40 @@ const SLOTS: usize = 64;
 // The places of endpoints, as a hint counts them.
 const PLACES: u8 = MAX_ENDPOINTS as u8;
 
-// The same number.
-fn wide(x: u8) -> u64
-    ensures { λ r. ⌜ r ≡ x ⌝ }
+// The domain that a record's first word names.
+pub(crate) fn domain_of(r: Mapping) -> Domain
+    ensures { λ d. ⌜ d ≡ domainOf r ⌝ }
 {
-    x as u64
+    let domain = r.key % DOMAIN_SPAN;
+    Domain(domain as u32)
 }
 
-// The same number.
-fn wider(x: u32) -> u64
-    ensures { λ r. ⌜ r ≡ x ⌝ }
-{
-    x as u64
-}
-
-// Whether an endpoint of the record's guest is attached to its domain, among the first n endpoints.
+// Whether an endpoint of guest g is attached to domain d, among the first n endpoints.
 fn domain_good<'a>(
     n: usize,
     owners: &'a [u8],
     attached: &'a [u8; MAX_ENDPOINTS],
     domains: &'a [u32; MAX_ENDPOINTS],
-    r: Mapping,
+    g: Guest,
+    d: Domain,
 ) -> bool
     requires { ⌜ (n ≤ maxEndpoints) × (n ≤ length (now owners)) ⌝ }
-    ensures { λ b. ⌜ b ≡ spec.domainGood n (now (owners .entry)) (now (attached .entry)) (now (domains .entry)) r ⌝ }
+    ensures { λ b. ⌜ b ≡ spec.domainHeld n (now (owners .entry)) (now (attached .entry)) (now (domains .entry)) g d ⌝ }
 {
-    let g = r.key / DOMAIN_SPAN;
-    let d = r.key % DOMAIN_SPAN;
+    let guest = g.0;
+    let domain = d.0;
     let mut found = false;
     for j in 0..n {
-        let o = owners[j];
-        let a = attached[j];
-        let e = domains[j];
-        found = found | ((wide(o) == g) & ((a == 1) & (wider(e) == d)));
+        found = found | ((owners[j] == guest) & ((attached[j] == 1) & (domains[j] == domain)));
     }
     found
 }
 
 // A slot for a guest and a domain.
-fn slot_of(g: u64, d: u64) -> usize
+fn slot_of(g: Guest, d: Domain) -> usize
     ensures { λ r. ⌜ r < 64 ⌝ }
 {
-    ((g % 4 * 16 + d % 64) % 64) as usize
+    ((g.0 % 4) as usize * 16 + (d.0 % 64) as usize) % SLOTS
 }
 
 // For each slot a place at which an endpoint stands that is attached to a domain of that slot, or 0. These are hints: whoever
@@ -71,9 +66,7 @@ pub(crate) fn hints_of<'a>(
     let mut hints: [u8; SLOTS] = [0; SLOTS];
     for j in 0..n {
         if attached[j] == 1 {
-            let o = owners[j];
-            let e = domains[j];
-            let slot = slot_of(wide(o), wider(e));
+            let slot = slot_of(Guest(owners[j]), Domain(domains[j]));
             hints[slot] = j as u8;
         }
     }
@@ -87,22 +80,18 @@ pub(crate) fn domain_held<'a>(
     attached: &'a [u8; MAX_ENDPOINTS],
     domains: &'a [u32; MAX_ENDPOINTS],
     hints: &'a [u8; SLOTS],
-    r: Mapping,
+    g: Guest,
+    d: Domain,
 ) -> bool
     requires { ⌜ (n ≤ maxEndpoints) × (n ≤ length (now owners)) ⌝ }
-    ensures { λ b. ⌜ b ≡ spec.domainGood n (now (owners .entry)) (now (attached .entry)) (now (domains .entry)) r ⌝ }
+    ensures { λ b. ⌜ b ≡ spec.domainHeld n (now (owners .entry)) (now (attached .entry)) (now (domains .entry)) g d ⌝ }
 {
-    let g = r.key / DOMAIN_SPAN;
-    let d = r.key % DOMAIN_SPAN;
     let slot = slot_of(g, d);
     let j = (hints[slot] % PLACES) as usize;
     if j < n {
-        let o = owners[j];
-        let a = attached[j];
-        let e = domains[j];
-        if (wide(o) == g) & ((a == 1) & (wider(e) == d)) {
+        if (owners[j] == g.0) & ((attached[j] == 1) & (domains[j] == d.0)) {
             return true;
         }
     }
-    domain_good(n, owners, attached, domains, r)
+    domain_good(n, owners, attached, domains, g, d)
 }

@@ -13,9 +13,11 @@ ghost use Rattle.rules.specs.Sound.{sharesKept};
 ghost use Rattle.table.specs.Records.{noMapping};
 ghost use Rattle.sound_records.specs.Scan as spec;
 use domains::domain_held;
+use domains::domain_of;
 use domains::hints_of;
 use forms::opens;
 use forms::run_end;
+use rules::Guest;
 use rules::Settings;
 use rules::sizes::DOMAIN_SPAN;
 use rules::sizes::MAX_ENDPOINTS;
@@ -58,7 +60,15 @@ fn placed_good<'a>(
         if !opens(i == 0, key, mask, input, first, last, r) {
             return false;
         }
-        if !domain_held(listed, owners, attached, domains, &hints, r) {
+        if !domain_held(
+            listed,
+            owners,
+            attached,
+            domains,
+            &hints,
+            Guest(g as u8),
+            domain_of(r),
+        ) {
             return false;
         }
         let next = run_end(t, i + 1, live, r.key, r.end, mask, input, first, last);

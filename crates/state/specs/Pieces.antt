@@ -1,11 +1,18 @@
--- A state as its pieces, which may be lent one by one, and the lengths of its arrays.
+-- A state, and settings, as their pieces, which may be lent one by one, and the lengths of a state's arrays.
 use Prim.Native.Nat.{ℕ}
 use mathlib.Core.Path.{_≡_}
 use mathlib.Core.List.{List}
 use lib.ListN.{length}
 use Rattle.rules.specs.Sizes.{maxGuests, maxEndpoints, faultPlaces}
+use Rattle.rules.specs.declared.InputRange.{InputRange}
+use Rattle.rules.specs.declared.DomainRange.{DomainRange}
 use Rattle.rules.specs.declared.Settings.{Settings}
 use Rattle.rules.specs.declared.State.{State}
+
+-- the settings of these pieces
+abbrev pub settingsWith : ℕ → List ℕ → List ℕ → List ℕ → ℕ → InputRange → DomainRange → Settings
+settingsWith guests shares firsts lasts mask input domains =
+    record { guests = guests; shares = shares; firsts = firsts; lasts = lasts; mask = mask; input = input; domains = domains }
 
 -- the state of these pieces
 abbrev pub stateWith : Settings → ℕ → ℕ → List ℕ → List ℕ → List ℕ → List ℕ → List ℕ → List ℕ → List ℕ → List ℕ → List ℕ → List ℕ → State

@@ -15,9 +15,9 @@ returns c =
     let b = c .before .before in
     let s = b .args .s in
     let n = shaped s _ (b .good .0) in
-    let t = none-shifted (b .args .g .0) (b .args .k) (c .if1 .taken) in
+    let t = none-shifted (b .args .g) (b .args .k) (c .if1 .taken) in
     rw (
-      none-counted (b .args .g .0) (b .args .k) (c .if1 .taken) (s .logged) (n .logged),
+      none-counted (b .args .g) (b .args .k) (c .if1 .taken) (s .logged) (n .logged),
       t (s .reasons) (n .reasons),
       t (s .flags) (n .flags),
       t (s .sources) (n .sources),

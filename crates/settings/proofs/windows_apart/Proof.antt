@@ -23,4 +23,4 @@ returns c = let l = c .before .loop in tested-all _ _ (l .ok) (l .g) (l .inv) (o
 
 pub windows-apart-spec : {M : Type 1} → statement M
 windows-apart-spec =
-    tie.close (tie.spec Inv-loop μ-loop (λ c. tested-none _ _) (λ c κs. search needs) (λ c. search needs) (λ c. search needs) loop-again returns)
+    tie.close (tie.spec Inv-loop μ-loop (λ c. tested-none _ _) (λ c. search needs) (λ c κs. search needs) (λ c. search needs) (λ c. search needs) loop-again returns)

@@ -40,6 +40,6 @@ places-good-spec =
     μ-loop
     (λ c κs. search needs) (λ c κs. search needs)
     (λ c. tested-none _ _)
-    (λ c. search needs) (λ c. search needs) (λ c. search needs) (λ c κs. search needs) (λ c. search needs) (λ c. search needs)
+    (λ c. search needs) (λ c. search needs) (λ c. search needs) (λ c. search needs) (λ c κs. search needs) (λ c. search needs) (λ c. search needs)
     loop-again
     returns)

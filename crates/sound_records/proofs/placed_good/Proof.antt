@@ -109,16 +109,30 @@ returns-2 c =
     let d = held (at (read o)) (it (read o)) in
     rw (passes (read o) (o .opens .result) d false (opened o) refl (ap (λ (b : Bool). b && d) (not-true (o .opens .result) (c .if2 .taken))))
 
+-- the test of its domain
+module _ (h : tie.After-domain-held Inv-loop μ-loop) where
+  abbrev asked : tie.After-opens Inv-loop μ-loop
+  asked = h .before .before .before .before
+
+  existing : h .domain-held .result ≡ held (at (read asked)) (it (read asked))
+  unfolding domainGood
+  existing = rw (h .before .domain-of .ensures) at (h .domain-held .ensures)
+
 returns-3 : tie.Need-returns-3 Inv-loop μ-loop
 returns-3 c =
     let d = c .before .domain-held in
-    let o = c .before .before .before .before in
-    rw (passes (read o) (o .opens .result) (d .result) false (opened o) (d .ensures) (ap (λ (b : Bool). o .opens .result && b) (not-true (d .result) (c .if3 .taken)) ∙ and-false (o .opens .result)))
+    let o = asked (c .before) in
+    rw (passes (read o) (o .opens .result) (d .result) false (opened o) (existing (c .before)) (ap (λ (b : Bool). o .opens .result && b) (not-true (d .result) (c .if3 .taken)) ∙ and-false (o .opens .result)))
+
+add-run-end : tie.Need-add-run-end Inv-loop μ-loop
+add-run-end c =
+    let g = read (asked (c .before)) in
+    record { fits = omega (arith, g .before .loop-test .taken, start (at g) .fits) }
 
 -- where its domain ends
 module _ (c : tie.After-run-end Inv-loop μ-loop) where
   abbrev test : tie.After-opens Inv-loop μ-loop
-  test = c .before .before .before .before .before
+  test = asked (c .before .before)
 
   -- its guest has a place
   placed : guestOf (it (read test)) < maxGuests
@@ -144,7 +158,7 @@ loop-again c =
     let e : c .run-end .result ≡ i + 1 + k = c .run-end .ensures in
     let q : k ≤ length (all s) - (i + 1) = rw (← length-drop (i + 1) (all s)) (run-within F (x .key) (x .end) (later g)) in
     let z : scan (own s) (held s) true noMapping (all s) ≡ scan (own s) (held s) false x (later g) =
-    passes g (o .opens .result) (d .result) true (opened o) (d .ensures) (both (o .opens .result) (d .result) (not-false (o .opens .result) (c .before .before .before .before .if2 .left)) (not-false (d .result) (c .before .if3 .left))) in
+    passes g (o .opens .result) (d .result) true (opened o) (existing (c .before .before)) (both (o .opens .result) (d .result) (not-false (o .opens .result) (c .before .before .before .before .before .if2 .left)) (not-false (d .result) (c .before .if3 .left))) in
     let y : scan (own s) (held s) false x (later g) ≡ opening (own s) (held s) false (x .key) (drop (c .run-end .result) (all s)) =
     after-run (own s) F (held s) (x .key) (λ q h. own-within (a .settings) q (rw h (within o)) ∙ rw h) x refl (later g)
     ∙ ap (opening (own s) (held s) false (x .key)) (drop-drop k (i + 1) (all s) ∙ ap (λ (n : ℕ). drop n (all s)) (sym e)) in
@@ -175,9 +189,10 @@ placed-good-spec =
     returns
     (λ c. search needs) (λ c. search needs) (λ c. search needs) (λ c. search needs) (λ c κs. tt)
     returns-2
-    (λ c κs. search needs)
+    (λ c. search needs) (λ c κs. tt) (λ c κs. search needs)
     returns-3
-    (λ c. search needs) (λ c κs. tt) (λ c. search needs)
+    add-run-end
+    (λ c κs. tt) (λ c. search needs)
     placed
     (λ c. search needs)
     add-counts

@@ -4,22 +4,23 @@ use borrow.Author.Needs.{needs}
 use Prim.Native.Nat.{_+_, _*_, _-_, _≤_}
 use mathlib.Core.Logic.{⊎-elim}
 use Rattle.rules.specs.Sizes.{maxFaults}
+use Rattle.rules.specs.Sound.{guest}
 use Rattle.state.proofs.Lengths.{shaped}
 use Rattle.dropping.proofs.Oldest.{Shifted, shift-first, shift-in, shift-out, shift-last}
 use Rattle.dropping.proofs.shifting.shift_faults.Statement.{statement}
 use Rattle.dropping.proofs.shifting.shift_faults.Tie as tie
 
 abbrev Inv-loop : tie.InvT-loop
-Inv-loop s g k reasons₀ flags₀ sources₀ addresses₀ first end i₀ reasons flags sources addresses i =
+Inv-loop s k reasons₀ flags₀ sources₀ addresses₀ g first end i₀ reasons flags sources addresses i =
     (maxFaults * g ≤ i) × (i ≤ maxFaults * g + maxFaults)
-    × (Shifted g k i reasons₀ reasons × Shifted g k i flags₀ flags × Shifted g k i sources₀ sources × Shifted g k i addresses₀ addresses)
+    × (Shifted (guest g) k i reasons₀ reasons × Shifted (guest g) k i flags₀ flags × Shifted (guest g) k i sources₀ sources × Shifted (guest g) k i addresses₀ addresses)
 
 abbrev μ-loop : tie.MeasureT-loop
-μ-loop s g k reasons₀ flags₀ sources₀ addresses₀ first end i₀ reasons flags sources addresses i = maxFaults * g + maxFaults - i
+μ-loop s k reasons₀ flags₀ sources₀ addresses₀ g first end i₀ reasons flags sources addresses i = maxFaults * g + maxFaults - i
 
 loop-holds : tie.Need-loop-holds Inv-loop μ-loop
 loop-holds c =
-    let b = c .before .before .before .before in
+    let b = c .before .before .before .before .before in
     let n = shaped (b .args .s) _ (b .good .0) in
     let t = shift-first (b .args .g) (b .args .k) in
     (omega arith, omega arith, (t _ (n .reasons), t _ (n .flags), t _ (n .sources), t _ (n .addresses)))
@@ -27,7 +28,7 @@ loop-holds c =
 loop-again : tie.Need-loop-again Inv-loop μ-loop
 loop-again c =
     let l = c .before .before in
-    let b = l .before .before .before .before .before in
+    let b = l .before .before .before .before .before .before in
     let v = l .loop .inv .2 in (
       omega arith,
       omega arith,
@@ -44,7 +45,7 @@ loop-again c =
 returns : tie.Need-returns Inv-loop μ-loop
 returns c =
     let l = c .before in
-    let a = l .before .before .before .before .before .args in
+    let a = l .before .before .before .before .before .before .args in
     let v = l .loop .inv .2 in
     let t = shift-last (a .g) (a .k) (l .loop .i) (omega arith) in
     rw (t _ _ (v .0), t _ _ (v .1), t _ _ (v .2), t _ _ (v .3))
@@ -55,7 +56,7 @@ shift-faults-spec =
     (tie.spec
     Inv-loop
     μ-loop
-    (λ c. search needs) (λ c. search needs)
+    (λ c. search needs) (λ c. search needs) (λ c. search needs)
     loop-holds
     (λ c. search needs) (λ c. search needs)
     (λ c. search needs) (λ c. search needs)

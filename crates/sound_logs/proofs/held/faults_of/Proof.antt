@@ -11,7 +11,7 @@ use Rattle.sound_logs.proofs.held.faults_of.Tie as tie
 
 abbrev Inv-loop : tie.InvT-loop
 Inv-loop first n g endpoints owners hints reasons flags sources addresses ok₀ j₀ ok j =
-    Tested n (λ k. faultGood (endpointsAlone (pickBy g owners endpoints)) (faultIn reasons flags sources addresses (first + k))) ok j
+    Tested n (λ k. faultGood (endpointsAlone (pickBy (g .0) owners endpoints)) (faultIn reasons flags sources addresses (first + k))) ok j
 
 abbrev μ-loop : tie.MeasureT-loop
 μ-loop first n g endpoints owners hints reasons flags sources addresses ok₀ j₀ ok j = n - j

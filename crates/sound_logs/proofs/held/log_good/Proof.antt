@@ -12,10 +12,10 @@ use Rattle.sound_logs.proofs.held.log_good.Tie as tie
 returns : tie.Need-returns
 returns c =
     let f = c .before in
-    let l = f .before in
+    let l = f .before .before in
     let a = l .before .before .before .args in
     rw (c .zero-places .ensures, f .faults-of .ensures, l .least .ensures)
-    (log-split (maxFaults * a .g) (a .count) (pickBy (a .g) (a .owners .now) (a .endpoints .now)) (faultIn (a .reasons .now) (a .flags .now) (a .sources .now) (a .addresses .now)))
+    (log-split (maxFaults * a .g .0) (a .count) (pickBy (a .g .0) (a .owners .now) (a .endpoints .now)) (faultIn (a .reasons .now) (a .flags .now) (a .sources .now) (a .addresses .now)))
 
 pub log-good-spec : {M : Type 1} → statement M
 log-good-spec =

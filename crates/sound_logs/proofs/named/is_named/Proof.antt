@@ -16,19 +16,20 @@ use Rattle.sound_logs.proofs.named.is_named.Tie as tie
 returns : tie.Need-returns
 unfolding listed
 returns c =
-    let a = c .before .before .before .before .before .before .args in
+    let a = c .before .before .before .before .before .before .before .args in
     let j : ℕ = getD (a .hints .now) (a .e .0 % 64) 0 % 32 in
-    let o : Bool = eqb (getD (a .owners .now) j 0) (a .g) in
+    let o : Bool = eqb (getD (a .owners .now) j 0) (a .g .0) in
     let e : Bool = eqb (getD (a .endpoints .now) j 0) (a .e .0) in
     let t : (o && e) ≡ true = c .if1 .taken in
     sym
-    (owned-at (eqb (a .e .0)) 0 (a .g) (a .owners .now) (a .endpoints .now) j (omega arith) (omega arith) (both-left o e t)
+    (owned-at (eqb (a .e .0)) 0 (a .g .0) (a .owners .now) (a .endpoints .now) j (omega arith) (omega arith) (both-left o e t)
     (eq-eqb (a .e .0) (getD (a .endpoints .now) j 0) (sym (eqb-true (getD (a .endpoints .now) j 0) (a .e .0) (both-right o e t)))))
 
 pub is-named-spec : {M : Type 1} → statement M
 is-named-spec =
     tie.close
     (tie.spec
-    (λ c. search needs) (λ c. search needs) (λ c. search needs) (λ c. search needs) (λ c. search needs) (λ c. search needs) (λ c. search needs)
+    (λ c. search needs) (λ c. search needs) (λ c. search needs) (λ c. search needs)
+    (λ c. search needs) (λ c. search needs) (λ c. search needs) (λ c. search needs)
     returns
     (λ c κs. search needs) (λ c. c .is-listed .ensures))

@@ -1,8 +1,8 @@
 -- `sound_records::domains::domain_held` meets its contract. Assumes nothing.
 use native.Mathlib.Omega.{arith}
 use borrow.Author.Needs.{needs}
-use Prim.Native.Nat.{ℕ, _/_, _%_, _<_}
-use mathlib.Core.Path.{_≡_, sym, ap, _∙_}
+use Prim.Native.Nat.{ℕ, _%_, _<_}
+use mathlib.Core.Path.{_≡_, sym, _∙_}
 use mathlib.Core.Bool.{Bool, true, _&&_}
 use mathlib.Core.Option.{none}
 use lib.Dec.{eqb}
@@ -11,43 +11,35 @@ use lib.Seq.{length-take-le, getD-take}
 use Rattle.laws.specs.Lists.{tab}
 use Rattle.laws.proofs.Tests.{both-left, both-right}
 use Rattle.laws.proofs.Tables.{length-tab, getD-tab}
-use Rattle.rules.specs.Sizes.{maxEndpoints, domainSpan}
+use Rattle.rules.specs.Sizes.{maxEndpoints}
 use Rattle.rules.specs.State.{Attachment, attachment}
 use Rattle.rules.specs.Handlers.{exists, isIn}
-use Rattle.sound_records.specs.Scan.{domainGood}
 use Rattle.laws.proofs.Owned.{owned-at}
-use Rattle.sound_records.proofs.Attached.{named, in-attachment}
+use Rattle.sound_records.proofs.Attached.{in-attachment}
 use Rattle.sound_records.proofs.domains.domain_held.Statement.{statement}
 use Rattle.sound_records.proofs.domains.domain_held.Tie as tie
 
 returns : tie.Need-returns
-unfolding domainGood exists
+unfolding exists
 returns c =
-    let w = c .before in
-    let k = w .before .before .before .before .before in
-    let l = k .before .before in
-    let a = l .before .before .before .before .args in
+    let l = c .before .before .before .before .before .before .before .before in
+    let a = l .before .before .args in
     let O = a .owners .now in
     let f : ℕ → Attachment = λ i. attachment (getD (a .attached .now) i 0) (getD (a .domains .now) i 0) in
     let j : ℕ = getD (a .hints .now) (l .slot-of .result) 0 % maxEndpoints in
-    let g : ℕ = a .r .key / domainSpan in
-    let d : ℕ = a .r .key % domainSpan in
     let h : j < a .n = omega arith in
-    let p : Bool = eqb (w .before .wide .result) g in
-    let q : Bool = eqb (getD (a .attached .now) j 0) 1 && eqb (w .wider .result) d in
+    let p : Bool = eqb (getD O j 0) (a .g .0) in
+    let q : Bool = eqb (getD (a .attached .now) j 0) 1 && eqb (getD (a .domains .now) j 0) (a .d .0) in
     let t : (p && q) ≡ true = c .if2 .taken in
-    let o : eqb (getD O j 0) g ≡ true = ap (λ (x : ℕ). eqb x g) (sym (w .before .wide .ensures)) ∙ both-left p q t in
-    let e : (eqb (getD (a .attached .now) j 0) 1 && eqb (getD (a .domains .now) j 0) d) ≡ true = rw (← w .wider .ensures) (both-right p q t) in
     sym
-    (owned-at (isIn (named d)) none g (take (a .n) O) (tab (a .n) f) j (rw (length-take-le (a .n) O (omega arith)) h) (rw (length-tab (a .n) f) h)
-    (rw (getD-take (a .n) O j 0 h) o)
-    (rw (getD-tab (a .n) f j none h) (in-attachment d (getD (a .attached .now) j 0) (getD (a .domains .now) j 0) ∙ e)))
+    (owned-at (isIn (a .d)) none (a .g .0) (take (a .n) O) (tab (a .n) f) j (rw (length-take-le (a .n) O (omega arith)) h) (rw (length-tab (a .n) f) h)
+    (rw (getD-take (a .n) O j 0 h) (both-left p q t))
+    (rw (getD-tab (a .n) f j none h) (in-attachment (a .d .0) (getD (a .attached .now) j 0) (getD (a .domains .now) j 0) ∙ both-right p q t)))
 
 pub domain-held-spec : {M : Type 1} → statement M
 domain-held-spec =
     tie.close
     (tie.spec
     (λ c κs. tt) (λ c. search needs) (λ c. search needs) (λ c. search needs) (λ c. search needs) (λ c. search needs) (λ c. search needs)
-    (λ c κs. tt) (λ c κs. tt)
     returns
     (λ c κs. search needs) (λ c. c .domain-good .ensures))
