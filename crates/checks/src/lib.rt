@@ -3,7 +3,7 @@ ghost use mathlib.Core.Path.{_≡_};
 ghost use Prim.Native.Nat.{ℕ, _≤_};
 ghost use Rattle.rules.specs.Configuration.{windowLast};
 ghost use Rattle.rules.specs.Sound.{sound};
-ghost use Rattle.state.specs.Pieces.{Shaped};
+ghost use Rattle.rules.specs.State.{Shaped};
 ghost use Rattle.effects.specs.Flat.{device};
 ghost use Rattle.effects.specs.Checks.{jobChecked};
 use effects::Checked;

@@ -38,16 +38,17 @@ use Rattle.rules.specs.Sound.{guest, sound}
 use Rattle.rules.specs.Device.{fetch, of-guest, access-by, Reply, jobRule, rule, ownerOf, caller, work, step}
 use Rattle.rules.specs.Device as rules
 use Rattle.rules.proofs.Worlds.{caller-below}
-use Rattle.rules.proofs.Reading.{sound-good, sound-listed, log-read}
-use Rattle.state.specs.Pieces.{Shaped}
+use Rattle.rules.proofs.Reading.{sound-good, sound-whole, sound-listed, log-read}
+use Rattle.rules.specs.State.{Shaped}
+use Rattle.rules.proofs.Refusals.{sound-step}
+use Rattle.rules.proofs.Unchanged.{kept-is, written, still}
 use Rattle.logging.specs.Changes.{faultLogged}
 use Rattle.dropping.specs.Changes.{faultsDropped}
 use Rattle.attachments.specs.Search.{indexOf}
 use Rattle.effects.specs.Flat.{device, placeOfEndpoint, isAttached, liveRecords, answerOf, decisionAt, decision, afterAccess, fetchCount, fetchBytes, ownerAt}
 use Rattle.effects.proofs.Places.{owner-at}
-use Rattle.effects.proofs.Leaving.{replace-same, attachment-here, flag-here, number-here, of-key-mine}
+use Rattle.effects.proofs.Leaving.{attachment-here, flag-here, number-here, of-key-mine}
 use Rattle.effects.proofs.Requested.{small-domain, fault-written, fetch-written}
-use Rattle.effects.proofs.Stepped.{sound-step, kept-is, written, whole}
 
 -- a record that permits an access by a key is of the key
 permits-key : (key : ℕ) (a : Access) (r : Mapping) → permits key a r ≡ true → ofKey key r ≡ true
@@ -87,27 +88,27 @@ module _ (d : Device) (h : sound d ≡ true) (k : Shaped (d .state)) where
         → findMapping (keyOf (own (configOf (d .state)) g .guest) dom) x (part (configOf (d .state)) g (read d) .records) ≡ findMapping (keyOf g dom) x (liveRecords d)
     found-here dom a =
         unfold findMapping own part read in
-        find-keep (λ r. eqb (guestOf r) (g .0)) (permits (keyOf g dom) x) (liveRecords d) (λ r p. eq-eqb (guestOf r) (g .0) (of-key-mine g dom r (small-domain (configOf (d .state)) (kept-is d h k) (read d) (whole d h k) g m (x .endpoint) dom a) (permits-key (keyOf g dom) x r p)))
+        find-keep (λ r. eqb (guestOf r) (g .0)) (permits (keyOf g dom) x) (liveRecords d) (λ r p. eq-eqb (guestOf r) (g .0) (of-key-mine g dom r (small-domain (configOf (d .state)) (kept-is d h k) (read d) (sound-whole d h) g m (x .endpoint) dom a) (permits-key (keyOf g dom) x r p)))
 
     -- what the arrays say at the endpoint's place
     place-is : placeOfEndpoint (d .state) (x .endpoint) ≡ indexOf (x .endpoint .0) (configOf (d .state) .endpoints)
     place-is = unfold configOf in refl
 
     attachment-is : attachmentOf (x .endpoint) (own (configOf (d .state)) g .endpoints) (part (configOf (d .state)) g (read d) .attachments) ≡ getD (read d .attachments) (indexOf (x .endpoint .0) (configOf (d .state) .endpoints)) none
-    attachment-is = attachment-here (configOf (d .state)) (kept-is d h k) (read d) (whole d h k) g m (x .endpoint) owner
+    attachment-is = attachment-here (configOf (d .state)) (kept-is d h k) (read d) (sound-whole d h) g m (x .endpoint) owner
 
     flag-is : isAttached (d .state) (placeOfEndpoint (d .state) (x .endpoint)) ≡ eqb (flagOf (attachmentOf (x .endpoint) (own (configOf (d .state)) g .endpoints) (part (configOf (d .state)) g (read d) .attachments))) 1
     flag-is =
         ap (λ n. isAttached (d .state) n) place-is
         ∙ ap (λ (v : Device). isAttached (v .state) (indexOf (x .endpoint .0) (configOf (d .state) .endpoints))) (written d h k)
-        ∙ flag-here (configOf (d .state)) (kept-is d h k) (read d) (whole d h k) g m (x .endpoint) owner
+        ∙ flag-here (configOf (d .state)) (kept-is d h k) (read d) (sound-whole d h) g m (x .endpoint) owner
         ∙ ap (λ (a : Attachment). eqb (flagOf a) 1) (sym attachment-is)
 
     number-is : getD (d .state .domains) (placeOfEndpoint (d .state) (x .endpoint)) 0 ≡ numberOf (attachmentOf (x .endpoint) (own (configOf (d .state)) g .endpoints) (part (configOf (d .state)) g (read d) .attachments))
     number-is =
         ap (λ n. getD (d .state .domains) n 0) place-is
         ∙ ap (λ (v : Device). getD (v .state .domains) (indexOf (x .endpoint .0) (configOf (d .state) .endpoints)) 0) (written d h k)
-        ∙ number-here (configOf (d .state)) (kept-is d h k) (read d) (whole d h k) g m (x .endpoint) owner
+        ∙ number-here (configOf (d .state)) (kept-is d h k) (read d) (sound-whole d h) g m (x .endpoint) owner
         ∙ ap numberOf (sym attachment-is)
 
     -- a fault logged for the owner
@@ -117,10 +118,10 @@ module _ (d : Device) (h : sound d ≡ true) (k : Shaped (d .state)) where
     logged-here why o =
         ap (λ n. device (faultLogged (d .state) (guest n) (faultOf why x)) (d .table)) o
         ∙ ap (λ (v : Device). device (faultLogged (v .state) g (faultOf why x)) (v .table)) (written d h k)
-        ∙ fault-written (configOf (d .state)) (kept-is d h k) (read d) (whole d h k) g m (faultOf why x)
+        ∙ fault-written (configOf (d .state)) (kept-is d h k) (read d) (sound-whole d h) g m (faultOf why x)
 
     same-here : d ≡ write (configOf (d .state)) (replace (configOf (d .state)) g (part (configOf (d .state)) g (read d)) (read d))
-    same-here = written d h k ∙ ap (λ (v : World). write (configOf (d .state)) v) (sym (replace-same (configOf (d .state)) (read d) (whole d h k) g))
+    same-here = sym (still d h k g (part (configOf (d .state)) g (read d)) refl)
 
     -- an answer, and what it leaves, as the arrays give them
     abbrev flat : Answer → Reply × Device
@@ -223,7 +224,7 @@ module _ (d : Device) (h : sound d ≡ true) (k : Shaped (d .state)) where
       bytes = ap (λ (q : Log). fetchedInto n q b) log-is ∙ unfold fetchedInto fetchBytes in ap (λ (q : List Fault). bytesOf q ++ drop (faultSize * n) b) (take-tab noFault n (getD (d .state .logged) (g .0) 0) (λ j. faultAt (d .state) (maxFaults * g .0 + j)) (min-le-left (getD (d .state .logged) (g .0) 0) (length b / faultSize)))
 
       kept-device : write (configOf (d .state)) (replace (configOf (d .state)) g (withLog (fetchedFrom n (part (configOf (d .state)) g (read d) .log)) (part (configOf (d .state)) g (read d))) (read d)) ≡ device (faultsDropped (d .state) g n) (d .table)
-      kept-device = sym (ap (λ (v : Device). device (faultsDropped (v .state) g n) (v .table)) (written d h k) ∙ fetch-written (configOf (d .state)) (kept-is d h k) (read d) (whole d h k) g below n)
+      kept-device = sym (ap (λ (v : Device). device (faultsDropped (v .state) g n) (v .table)) (written d h k) ∙ fetch-written (configOf (d .state)) (kept-is d h k) (read d) (sound-whole d h) g below n)
 
       pair : _≡_ {A = List ℕ × Device} (fetchedInto n (part (configOf (d .state)) g (read d) .log) b, write (configOf (d .state)) (replace (configOf (d .state)) g (withLog (fetchedFrom n (part (configOf (d .state)) g (read d) .log)) (part (configOf (d .state)) g (read d))) (read d))) (fetchBytes (d .state) g n b, device (faultsDropped (d .state) g n) (d .table))
       pair = rw (bytes, kept-device)

@@ -40,7 +40,7 @@ use Rattle.rules.proofs.Worlds.{Whole}
 use Rattle.rules.proofs.Accesses.{permits-covers}
 use Rattle.rules.proofs.Reading.{sound-good, sound-whole}
 use Rattle.rules.proofs.Groups.{sound-facts}
-use Rattle.state.specs.Pieces.{Shaped}
+use Rattle.rules.specs.State.{Shaped}
 use Rattle.layouts.specs.declared.request.Request.{Request}
 use Rattle.layouts.specs.declared.request.Request.the-variants.{Attach, Detach, Map, Unmap}
 use Rattle.layouts.specs.declared.request.Request.the-variants as Q
@@ -52,8 +52,9 @@ use Rattle.effects.specs.declared.Checked.the-variants.{Passed}
 use Rattle.effects.specs.declared.Checked.the-variants as C
 use Rattle.effects.specs.Checks.{jobChecked}
 use Rattle.effects.specs.Serve.{handled}
-use Rattle.effects.proofs.Shape.{small-count}
-use Rattle.effects.proofs.Stepped.{no-such-guest, unsound, reset-step, refused-step, served-step}
+use Rattle.rules.proofs.Shape.{small-count}
+use Rattle.rules.proofs.Refusals.{no-such-guest, unsound}
+use Rattle.effects.proofs.Stepped.{reset-step, refused-step, served-step}
 use Rattle.dropping.specs.Changes.{faultsDropped}
 use Rattle.effects.proofs.Answered.{access-step, fetch-step}
 

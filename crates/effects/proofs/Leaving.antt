@@ -39,7 +39,8 @@ use Rattle.removal.specs.Removed.{within}
 use Rattle.attachments.specs.Changes.{attachedAt}
 use Rattle.attachments.specs.Search.{indexOf}
 use Rattle.effects.specs.Flat.{device, isAttached, existsFlat, removed, left, entered, moved, noDomain}
-use Rattle.effects.proofs.Flat.{with-same, with-kept}
+use Rattle.rules.proofs.PutBack.{with-kept}
+use Rattle.rules.proofs.Unchanged.{attachments-same, records-same, logs-same}
 use Rattle.effects.proofs.Places.{owner-at, attachment-at, attached-at}
 use Rattle.effects.proofs.Written.{withAtts, withRecs, attached-written, exists-written, removed-written}
 
@@ -51,28 +52,15 @@ keep-agree t q r (x ∷ l) h f = rw (f x (both-left (t x) _ h), keep-agree t q r
 -- THE WORLD PUT BACK
 
 module _ (c : Config) (w : World) (h : Whole c w) (g : Guest) where
-  pub attachments-same : weaveBy (g .0) (c .owners) (w .attachments) (part c g w .attachments) ≡ w .attachments
-  attachments-same = unfold part in weave-pick (g .0) (c .owners) (w .attachments)
-
-  pub records-same : withRecordsOf g (part c g w .records) (w .records) ≡ w .records
-  records-same = unfold part in with-same g (w .records) (h .order)
-
-  logs-same : set (w .logs) (g .0) (part c g w .log) ≡ w .logs
-  logs-same = unfold part in set-getD (w .logs) (g .0) noLog
-
-  -- a part as it was
-  pub replace-same : replace c g (part c g w) w ≡ w
-  replace-same = unfold replace in rw (attachments-same, records-same, logs-same)
-
   -- a part with other attachments, other records, or another log
   pub replace-attachments : (l : List Attachment) → replace c g (record { attachments = l; records = part c g w .records; log = part c g w .log }) w ≡ withAtts (weaveBy (g .0) (c .owners) (w .attachments) l) w
-  replace-attachments l = unfold replace in rw (records-same, logs-same)
+  replace-attachments l = unfold replace in rw (records-same c w h g, logs-same c w h g)
 
   pub replace-records : (l : List Mapping) → replace c g (record { attachments = part c g w .attachments; records = l; log = part c g w .log }) w ≡ withRecs (withRecordsOf g l (w .records)) w
-  replace-records l = unfold replace in rw (attachments-same, logs-same)
+  replace-records l = unfold replace in rw (attachments-same c w h g, logs-same c w h g)
 
   pub replace-both : (a : List Attachment) (l : List Mapping) → replace c g (record { attachments = a; records = l; log = part c g w .log }) w ≡ withAtts (weaveBy (g .0) (c .owners) (w .attachments) a) (withRecs (withRecordsOf g l (w .records)) w)
-  replace-both a l = unfold replace in rw logs-same
+  replace-both a l = unfold replace in rw (logs-same c w h g)
 
 -- EVERY RECORD ENDS BY THE TOP ADDRESS
 

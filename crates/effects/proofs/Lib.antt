@@ -1,5 +1,3 @@
-pub mod Shape
-pub mod Flat
 pub mod Places
 pub mod Written
 pub mod Logs

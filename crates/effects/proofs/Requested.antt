@@ -44,10 +44,11 @@ use Rattle.dropping.specs.Changes.{faultsDropped}
 use Rattle.resets.specs.Changes.{guestCleared}
 use Rattle.attachments.specs.Search.{indexOf}
 use Rattle.effects.specs.Flat.{device, worked, placeOfEndpoint, ownedAt, isAttached, existsFlat, liveRecords, removed, inserted, left, entered, moved, settled, attachStatus, attachFlat, detachStatus, detachFlat, mapStatus, mapFlat, unmapStatus, unmapFlat, resetFlat}
-use Rattle.effects.proofs.Flat.{with-kept, with-inserted, any-of}
+use Rattle.rules.proofs.PutBack.{with-kept, with-inserted, any-of}
+use Rattle.rules.proofs.Unchanged.{attachments-same, records-same, replace-same}
 use Rattle.effects.proofs.Places.{owner-at, listed-owned}
 use Rattle.effects.proofs.Written.{withRecs, withLogs, exists-written, removed-written, inserted-written}
-use Rattle.effects.proofs.Leaving.{keep-agree, ends, attachments-same, records-same, replace-same, replace-records, left-written, entered-written, moved-on, attachment-here, flag-here, number-here, in-domain, of-key-mine}
+use Rattle.effects.proofs.Leaving.{keep-agree, ends, replace-records, left-written, entered-written, moved-on, attachment-here, flag-here, number-here, in-domain, of-key-mine}
 use Rattle.effects.proofs.Logs.{logged-written, dropped-written, cleared-written}
 use Rattle.effects.proofs.Statuses.{settled-written}
 

@@ -22,32 +22,16 @@ use Rattle.rules.specs.Access.{afterReset}
 use Rattle.rules.specs.Sound.{sound}
 use Rattle.rules.specs.Device.{request, reset, Call, of-guest, refusedWith, requested, jobRule, rule, caller, numbered, work, step}
 use Rattle.rules.specs.Device as rules
-use Rattle.rules.proofs.Worlds.{Whole}
-use Rattle.rules.proofs.Writing.{kept}
 use Rattle.rules.proofs.Reading.{sound-whole}
-use Rattle.state.specs.Pieces.{Shaped}
+use Rattle.rules.specs.State.{Shaped}
 use Rattle.layouts.specs.Parsed.{asked, mapFields, unmapFields}
 use Rattle.layouts.specs.declared.request.Request.the-variants.{Attach, Detach, Map, Unmap}
 use Rattle.layouts.specs.declared.request.Request.the-variants as Q
 use Rattle.effects.specs.Flat.{Worked, worked, mapFlat, resetFlat}
 use Rattle.effects.specs.Serve.{recordOf, handled}
-use Rattle.effects.proofs.Shape.{settings-back, state-back, table-back}
-use Rattle.effects.proofs.Leaving.{replace-same}
+use Rattle.rules.proofs.Refusals.{sound-step}
+use Rattle.rules.proofs.Unchanged.{replace-same, kept-is, written, still}
 use Rattle.effects.proofs.Requested.{attach-written, detach-written, map-written, unmap-written, reset-written}
-
--- REFUSALS
-
-pub no-such-guest : (d : Device) (x : Call) → numbered (configOf (d .state)) x ≡ false → step d x ≡ (refusedWith NoSuchGuest x, d)
-unfolding step
-no-such-guest d x n = rw n
-
-pub unsound : (d : Device) (x : Call) → numbered (configOf (d .state)) x ≡ true → sound d ≡ false → step d x ≡ (refusedWith Unsound x, d)
-unfolding step
-unsound d x n s = rw (n, s)
-
-pub sound-step : (d : Device) (x : Call) → numbered (configOf (d .state)) x ≡ true → sound d ≡ true → step d x ≡ rules.performed d (caller (configOf (d .state)) x) x
-unfolding step
-sound-step d x n s = rw (n, s)
 
 module _ (d : Device) (h : sound d ≡ true) (k : Shaped (d .state)) where
   abbrev c : Config
@@ -56,23 +40,13 @@ module _ (d : Device) (h : sound d ≡ true) (k : Shaped (d .state)) where
   abbrev w : World
   w = read d
 
-  pub kept-is : kept (configOf (d .state)) ≡ configOf (d .state)
-  kept-is = unfold kept configOf in rw (settings-back d h k)
-
-  -- the device is what its world writes
-  pub written : d ≡ write (configOf (d .state)) (read d)
-  written = unfold write in rw (state-back d h k, table-back d h k)
-
-  pub whole : Whole (configOf (d .state)) (read d)
-  whole = sound-whole d h
-
   -- RESET
 
   pub reset-step : (g : Guest) → ltb (g .0) (d .state .settings .guests) ≡ true → step d (of-guest g reset) ≡ (record { answer = Done; buffer = [] }, resetFlat d g)
   reset-step g l =
       sound-step d (of-guest g reset) (unfold configOf in l) h
       ∙ unfold caller rules.performed work rule jobRule in
-      ap (λ (e : Device). (record { answer = Done; buffer = [] }, e)) (sym (ap (λ (e : Device). resetFlat e g) written ∙ reset-written (configOf (d .state)) kept-is (read d) whole g (unfold configOf in ltb-true (g .0) (d .state .settings .guests) l)))
+      ap (λ (e : Device). (record { answer = Done; buffer = [] }, e)) (sym (ap (λ (e : Device). resetFlat e g) (written d h k) ∙ reset-written (configOf (d .state)) (kept-is d h k) (read d) (sound-whole d h) g (unfold configOf in ltb-true (g .0) (d .state .settings .guests) l)))
 
   -- REQUESTS
 
@@ -91,26 +65,26 @@ module _ (d : Device) (h : sound d ≡ true) (k : Shaped (d .state)) where
     p = part (configOf (d .state)) g (read d)
 
     map-here : (r : List ℕ) → mapFlat (write (configOf (d .state)) (read d)) g (domainField r) (recordOf g (domainField r) (mapFields r)) ≡ back (handleMap (own (configOf (d .state)) g) (part (configOf (d .state)) g (read d)) (domainField r) (askedFor (own (configOf (d .state)) g) r))
-    map-here r = unfold own in map-written (configOf (d .state)) kept-is (read d) whole g m (domainField r) (recordOf g (domainField r) (mapFields r)) refl
+    map-here r = unfold own in map-written (configOf (d .state)) (kept-is d h k) (read d) (sound-whole d h) g m (domainField r) (recordOf g (domainField r) (mapFields r)) refl
 
     pub handle-step : (r : List ℕ) → handled d g (asked r) ≡ back (handle (own (configOf (d .state)) g) (part (configOf (d .state)) g (read d)) r)
-    handle-step r = ap (λ (e : Device). handled e g (asked r)) written ∙ unfold asked handle in go (eqb (typeOf r) ATTACH) (eqb (typeOf r) DETACH) (eqb (typeOf r) MAP) (eqb (typeOf r) UNMAP)
+    handle-step r = ap (λ (e : Device). handled e g (asked r)) (written d h k) ∙ unfold asked handle in go (eqb (typeOf r) ATTACH) (eqb (typeOf r) DETACH) (eqb (typeOf r) MAP) (eqb (typeOf r) UNMAP)
       where
         go : (t u v x : Bool)
             → handled (write (configOf (d .state)) (read d)) g (cond t (Attach (domainField r) (endpointField r) (attachReserved r)) (cond u (Detach (domainField r) (endpointField r) (attachReserved r)) (cond v (Map (domainField r) (mapFields r)) (cond x (Unmap (domainField r) (unmapFields r)) (Q.Refused UnknownType)))))
             ≡ back (cond t (handleAttach (own (configOf (d .state)) g) (part (configOf (d .state)) g (read d)) (domainField r) (endpointField r) (attachReserved r)) (cond u (handleDetach (own (configOf (d .state)) g) (part (configOf (d .state)) g (read d)) (domainField r) (endpointField r) (attachReserved r)) (cond v (handleMap (own (configOf (d .state)) g) (part (configOf (d .state)) g (read d)) (domainField r) (askedFor (own (configOf (d .state)) g) r)) (cond x (handleUnmap (own (configOf (d .state)) g) (part (configOf (d .state)) g (read d)) (domainField r) (virtStart r) (virtEnd r) (unmapReserved r)) (DEVERR, part (configOf (d .state)) g (read d))))))
-        go true u v x = unfold handled in attach-written (configOf (d .state)) kept-is (read d) whole g m (domainField r) (endpointField r) (attachReserved r)
-        go false true v x = unfold handled in detach-written (configOf (d .state)) kept-is (read d) whole g m (domainField r) (endpointField r) (attachReserved r)
+        go true u v x = unfold handled in attach-written (configOf (d .state)) (kept-is d h k) (read d) (sound-whole d h) g m (domainField r) (endpointField r) (attachReserved r)
+        go false true v x = unfold handled in detach-written (configOf (d .state)) (kept-is d h k) (read d) (sound-whole d h) g m (domainField r) (endpointField r) (attachReserved r)
         go false false true x = unfold handled in map-here r
-        go false false false true = unfold handled in unmap-written (configOf (d .state)) kept-is (read d) whole g m (domainField r) (virtStart r) (virtEnd r) (unmapReserved r)
-        go false false false false = unfold handled in ap (λ (v : World). worked DEVERR (write (configOf (d .state)) v)) (sym (replace-same (configOf (d .state)) (read d) whole g))
+        go false false false true = unfold handled in unmap-written (configOf (d .state)) (kept-is d h k) (read d) (sound-whole d h) g m (domainField r) (virtStart r) (virtEnd r) (unmapReserved r)
+        go false false false false = unfold handled in ap (λ (v : World). worked DEVERR (write (configOf (d .state)) v)) (sym (replace-same (configOf (d .state)) (read d) (sound-whole d h) g))
 
     -- a request that is refused, and one that is worked
     pub refused-step : (r b : List ℕ) (a : Refusal) → firstFailing (requestRefusals r (length b)) ≡ some a → step d (of-guest g (request r b)) ≡ (record { answer = Refused a; buffer = b }, d)
     refused-step r b a f =
         sound-step d (of-guest g (request r b)) (unfold configOf in l) h
         ∙ unfold caller rules.performed work rule jobRule requested in
-        rw f (ap (λ (e : Device). (record { answer = Refused a; buffer = b }, e)) (sym (written ∙ ap (λ (v : World). write (configOf (d .state)) v) (sym (replace-same (configOf (d .state)) (read d) whole g)))))
+        rw f (ap (λ (e : Device). (record { answer = Refused a; buffer = b }, e)) (still d h k g (part (configOf (d .state)) g (read d)) refl))
 
     pub served-step : (r b : List ℕ) → firstFailing (requestRefusals r (length b)) ≡ none → step d (of-guest g (request r b)) ≡ (record { answer = Served 4; buffer = handled d g (asked r) .status ∷ 0 ∷ 0 ∷ 0 ∷ [] }, handled d g (asked r) .left)
     served-step r b f =

@@ -32,8 +32,7 @@ fn has_flag(kind: u8, flags: u64) -> bool
 fn permits(r: Mapping, key: u64, a: Access) -> bool
     ensures { λ b. ⌜ b ≡ access.permits key a r ⌝ }
 {
-    (r.key == key)
-        & (((r.start <= a.address) & (a.address <= r.end)) & has_flag(a.kind, r.flags))
+    (r.key == key) & (((r.start <= a.address) & (a.address <= r.end)) & has_flag(a.kind, r.flags))
 }
 
 // The first of the first live records that lets an access through that is made in the key's domain.

@@ -11,7 +11,7 @@ ghost use Rattle.rules.specs.Device as rules;
 ghost use Rattle.effects.specs.Flat.{device};
 ghost use Rattle.effects.specs.Outcome.{outcome};
 ghost use Rattle.effects.specs.Serve.{handled};
-ghost use Rattle.state.specs.Pieces.{Shaped};
+ghost use Rattle.rules.specs.State.{Shaped};
 ghost use Rattle.effects.specs.Replied.{replied};
 use effects::Checked;
 use effects::Given;
@@ -21,8 +21,8 @@ use rules::Answer;
 use rules::Guest;
 use rules::Mapping;
 use rules::State;
-use rules::sizes::STATUS_SIZE;
 use rules::requests::DEVERR;
+use rules::sizes::STATUS_SIZE;
 
 // What the handler of a request's type gives; a refused request has none.
 fn handle(s: State, t: &mut [u64], g: Guest, q: Request) -> Handled

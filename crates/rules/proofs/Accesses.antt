@@ -123,22 +123,20 @@ access-lands o p x f = go (attachmentOf (x .endpoint) (o .endpoints) (p .attachm
 -- EXACTLY WHEN
 
 module _ (d : Device) (s : sound d ≡ true) (x : Access) (g : Guest) (mine : caller (configOf (d .state)) (access-by x) ≡ some g) where
-  c : Config
+  abbrev c : Config
   c = configOf (d .state)
 
   whole : Whole c (read d)
-  unfolding c
   whole = sound-whole d s
 
   below-count : g .0 < c .settings .guests
-  below-count = caller-below c (access-by x) g (good-facts c (whole .config)) refl (unfold c in mine)
+  below-count = caller-below c (access-by x) g (good-facts c (whole .config)) refl mine
 
   facts : Facts (own c g) (part c g (read d))
   facts = whole .parts g below-count
 
   -- the device's answer is the guest's rule on its own part
-  answered : step d (access-by x) .0 .answer ≡ decided (own c g) (part c g (read d)) x (attachedTo d g (x .endpoint)) .0
-  unfolding c
+  pub answered : step d (access-by x) .0 .answer ≡ decided (own c g) (part c g (read d)) x (attachedTo d g (x .endpoint)) .0
   answered = ap (λ (r : Reply). r .answer) (reply-of d (access-by x) s ∙ step-mine c (read d) (access-by x) g whole below-count (unfold owns in rw mine (eq-eqb (g .0) (g .0) refl)) .0) ∙ unfold rule access in refl
 
   -- a domain that the endpoint is attached to has a number of 32 bits
@@ -156,11 +154,10 @@ module _ (d : Device) (s : sound d ≡ true) (x : Access) (g : Guest) (mine : ca
   within dom i = not-true _ i
 
   small : (dom : Domain) → attachedTo d g (x .endpoint) ≡ some dom → dom .0 < domainSpan
-  unfolding c
   small dom i = omega (arith, outside-high _ _ _ (within dom (in-one-of (part c g (read d) .attachments) (own c g .endpoints) dom i (facts .attachments))), facts .narrow)
 
   -- the guest's records are found among all
-  looked-up : (dom : Domain) → attachedTo d g (x .endpoint) ≡ some dom → findMapping (keyOf (own c g .guest) dom) x (part c g (read d) .records) ≡ find (permits (keyOf g dom) x) (read d .records)
+  pub looked-up : (dom : Domain) → attachedTo d g (x .endpoint) ≡ some dom → findMapping (keyOf (own c g .guest) dom) x (part c g (read d) .records) ≡ find (permits (keyOf g dom) x) (read d .records)
   unfolding findMapping part own
   looked-up dom i = find-keep (λ r. eqb (guestOf r) (g .0)) (permits (keyOf g dom) x) (read d .records) (λ r p. eq-eqb (guestOf r) (g .0) (ap (λ n. n / domainSpan) (permits-covers (keyOf g dom) x r p .key) ∙ key-guest (g .0) (dom .0) (small dom i)))
 

@@ -12,8 +12,13 @@ pub mod Kept
 pub mod Reading
 pub mod Divided
 pub mod Soundness
+pub mod PutBack
+pub mod Shape
+pub mod Unchanged
 pub mod Steps
 pub mod History
 pub mod Accesses
 pub mod Share
+pub mod Refusals
+pub mod Numbers
 pub mod Claims

@@ -1,11 +1,12 @@
 -- What is claimed of the device over any list of calls. Each claim is a statement; the crate's proofs/Claims.antt proves it.
 use Prim.Native.Nat.{ℕ, _+_, _-_, _≤_, _<_}
 use mathlib.Core.Path.{_≡_}
-use mathlib.Core.Bool.{true, _&&_}
-use mathlib.Core.List.{List}
-use mathlib.Core.Option.{Option, some}
+use mathlib.Core.Bool.{Bool, true, cond, not, _&&_, _||_}
+use mathlib.Core.List.{List, [], _∷_}
+use mathlib.Core.Option.{Option, some, none}
+use lib.Dec.{leb, ltb, eqb}
 use lib.ListN.{length, getD}
-use Rattle.laws.specs.Lists.{every?, keep, below}
+use Rattle.laws.specs.Lists.{any?, every?, keep, below}
 use Rattle.laws.specs.Runs.{after, given, every}
 use Rattle.rules.specs.declared.Guest.{Guest}
 use Rattle.rules.specs.declared.Endpoint.{Endpoint}
@@ -13,17 +14,17 @@ use Rattle.rules.specs.declared.Domain.{Domain}
 use Rattle.rules.specs.declared.Mapping.{Mapping}
 use Rattle.rules.specs.declared.Access.{Access}
 use Rattle.rules.specs.declared.Answer.the-variants.{Done, Through}
-use Rattle.rules.specs.Sizes.{maxRecords}
-use Rattle.rules.specs.Configuration.{Config, share, windowFirst, windowLast}
+use Rattle.rules.specs.Sizes.{maxRecords, tableWords}
+use Rattle.rules.specs.Configuration.{Config, share, windowFirst, windowLast, good}
 use Rattle.rules.specs.Table.{keyOf, mapping}
-use Rattle.rules.specs.State.{Device, configOf, read}
+use Rattle.rules.specs.State.{Device, configOf, read, zeroState, Shaped}
 use Rattle.rules.specs.Guests.{Part, own, part}
 use Rattle.rules.specs.Answers.{number, usedLength, addressOf}
-use Rattle.rules.specs.Requests.{NOMEM}
+use Rattle.rules.specs.Requests.{OK, NOMEM, typeOf, readableLength, writableLength}
 use Rattle.rules.specs.Handlers.{attachmentOf}
-use Rattle.rules.specs.Access.{hasFlag}
+use Rattle.rules.specs.Access.{hasFlag, permits}
 use Rattle.rules.specs.Sound.{sound, guest, partTests, commonTests}
-use Rattle.rules.specs.Device.{request, Call, of-guest, access-by, Reply, rule, caller, owns, step, setUp}
+use Rattle.rules.specs.Device.{request, reset, fetch, Call, of-guest, access-by, Reply, lent, rule, caller, owns, step, setUp}
 use Rattle.rules.specs.History.{Tally, noTally, history}
 
 -- the guest's attachments, records in table order, log and lost count
@@ -148,3 +149,92 @@ RoomWithinShare =
     (d : Device) → sound d ≡ true → (g : Guest) → g .0 < configOf (d .state) .settings .guests
     → length (holds (configOf (d .state)) g d .records) < share (configOf (d .state) .settings) (g .0)
     → length (read d .records) < maxRecords
+
+-- 7. "NOTHING CHANGES", on any device whose arrays have their lengths
+
+-- the numbers of which 01 says "nothing changes"
+abbrev pub changesNothing : ℕ → Bool
+changesNothing n = any? (eqb n) (1 ∷ 2 ∷ 3 ∷ 4 ∷ 6 ∷ [])
+
+abbrev pub RefusalsChangeNothing : Type 0
+RefusalsChangeNothing =
+    (d : Device) → Shaped (d .state) → (x : Call) → changesNothing (number (step d x .0 .answer)) ≡ true
+    → (step d x .1 ≡ d) × (step d x .0 .buffer ≡ lent x)
+
+-- "Any status but OK changes nothing except the four status bytes."
+abbrev pub FailuresChangeNothing : Type 0
+FailuresChangeNothing =
+    (d : Device) → Shaped (d .state)
+    → (g : Guest) (readable writable : List ℕ) → number (step d (of-guest g (request readable writable)) .0 .answer) ≡ 0
+    → (getD (step d (of-guest g (request readable writable)) .0 .buffer) 0 0 ≡ OK → ⊥)
+    → step d (of-guest g (request readable writable)) .1 ≡ d
+
+-- an access that goes through
+abbrev pub ThroughChangesNothing : Type 0
+ThroughChangesNothing =
+    (d : Device) → Shaped (d .state) → (a : Access) → number (step d (access-by a) .0 .answer) ≡ 0 → step d (access-by a) .1 ≡ d
+
+-- of set-up: "table untouched; the state given back has every number zero"
+abbrev pub RefusedSetUpIsZero : Type 0
+RefusedSetUpIsZero =
+    (c : Config) (table : List ℕ) → (number (setUp c table .answer) ≡ 0 → ⊥)
+    → setUp c table .device ≡ record { state = zeroState; table = table }
+
+-- 8. "EACH IS GIVEN EXACTLY UNDER ITS CONDITION", on any device: the number is that of the first condition that holds, in the
+-- order that 01 gives for the call, and 0 where none holds
+
+abbrev pub firstNumber : List (Bool × ℕ) → ℕ
+firstNumber [] = 0
+firstNumber (c ∷ l) = cond (c .0) (c .1) (firstNumber l)
+
+-- "guest number not below the guest count"
+abbrev pub noSuchGuest : Device → Guest → Bool
+noSuchGuest d g = leb (d .state .settings .guests) (g .0)
+
+-- "Requests: 1, 2, 4 (below 4 bytes), 3, 4 (lengths)."
+abbrev pub RequestNumbers : Type 0
+RequestNumbers =
+    (d : Device) (g : Guest) (readable writable : List ℕ)
+    → number (step d (of-guest g (request readable writable)) .0 .answer)
+    ≡ firstNumber ((noSuchGuest d g, 1)
+    ∷ (not (sound d), 2)
+    -- "readable part below 4 bytes"
+    ∷ (ltb (length readable) 4, 4)
+    -- "request type not 1 to 4"
+    ∷ (ltb (typeOf readable) 1 || ltb 4 (typeOf readable), 3)
+    -- "a part's length not the type's"
+    ∷ (not (eqb (length readable) (readableLength (typeOf readable))) || not (eqb (length writable) (writableLength (typeOf readable))), 4)
+    ∷ [])
+
+-- "Reset and fetch: 1, 2."
+abbrev pub ResetNumbers : Type 0
+ResetNumbers =
+    (d : Device) (g : Guest)
+    → number (step d (of-guest g reset) .0 .answer) ≡ firstNumber ((noSuchGuest d g, 1) ∷ (not (sound d), 2) ∷ [])
+
+abbrev pub FetchNumbers : Type 0
+FetchNumbers =
+    (d : Device) (g : Guest) (buffer : List ℕ)
+    → number (step d (of-guest g (fetch buffer)) .0 .answer) ≡ firstNumber ((noSuchGuest d g, 1) ∷ (not (sound d), 2) ∷ [])
+
+-- "7 or 8": by the attachment of guest g's endpoint
+abbrev pub attachedNumber : Device → Access → Guest → Option Domain → ℕ
+attachedNumber d a g none = 7
+attachedNumber d a g (some domain) = cond (any? (permits (keyOf g domain) a) (read d .records)) 0 8
+
+-- "6, then 7 or 8": by the endpoint's owner
+abbrev pub ownedNumber : Device → Access → Option Guest → ℕ
+ownedNumber d a none = 6
+ownedNumber d a (some g) = attachedNumber d a g (attachedTo d g (a .endpoint))
+
+-- "Access: 2, 6, then 7 or 8."
+abbrev pub AccessNumbers : Type 0
+AccessNumbers =
+    (d : Device) (a : Access)
+    → number (step d (access-by a) .0 .answer) ≡ cond (not (sound d)) 2 (ownedNumber d a (caller (configOf (d .state)) (access-by a)))
+
+-- "Set-up: 2 (length [..]), then 5."
+abbrev pub SetUpNumbers : Type 0
+SetUpNumbers =
+    (c : Config) (table : List ℕ)
+    → number (setUp c table .answer) ≡ firstNumber ((not (eqb (length table) tableWords), 2) ∷ (not (good c), 5) ∷ [])

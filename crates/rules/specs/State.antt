@@ -2,6 +2,7 @@
 -- unattached; an attached one may be in domain 0 too), and for each guest a fault log of at most 16 records, oldest first,
 -- unused places zero, and a lost count that stops at 65,535. Guest and endpoint places not in use are zero too."
 use Prim.Native.Nat.{ℕ, _+_, _*_, _/_, _%_}
+use mathlib.Core.Path.{_≡_}
 use mathlib.Core.Bool.{cond}
 use mathlib.Core.List.{List, []}
 use mathlib.Core.Option.{Option, some, none}
@@ -163,3 +164,19 @@ zeroState =
       sources = replicate faultPlaces 0;
       addresses = replicate faultPlaces 0;
     }
+
+-- the lengths of the state's arrays, which their types fix
+pub record Shaped (s : State) : Type 0 where
+  pub shares : length (s .settings .shares) ≡ maxGuests
+  pub firsts : length (s .settings .firsts) ≡ maxGuests
+  pub lasts : length (s .settings .lasts) ≡ maxGuests
+  pub endpoints : length (s .endpoints) ≡ maxEndpoints
+  pub owners : length (s .owners) ≡ maxEndpoints
+  pub attached : length (s .attached) ≡ maxEndpoints
+  pub domains : length (s .domains) ≡ maxEndpoints
+  pub logged : length (s .logged) ≡ maxGuests
+  pub lost : length (s .lost) ≡ maxGuests
+  pub reasons : length (s .reasons) ≡ faultPlaces
+  pub flags : length (s .flags) ≡ faultPlaces
+  pub sources : length (s .sources) ≡ faultPlaces
+  pub addresses : length (s .addresses) ≡ faultPlaces

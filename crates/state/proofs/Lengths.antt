@@ -8,7 +8,7 @@ use borrow.Author.Needs.{length-unmapped}
 use Rattle.rules.specs.Sizes.{maxGuests, maxEndpoints, faultPlaces}
 use Rattle.rules.specs.declared.State.{State}
 use Rattle.rules.proofs.State as declared-state
-use Rattle.state.specs.Pieces.{Shaped}
+use Rattle.rules.specs.State.{Shaped}
 
 -- each state that a function is handed has the lengths that the types of its arrays fix
 pub shaped : (s : State) (vs : List Val) → Is (row declared-state.the-type) s vs → Shaped s

@@ -13,19 +13,18 @@ use borrow.Author.Tests.{ltb-true, ltb-false, eqb-true, le-ltb}
 use Rattle.laws.specs.Lists.{tab, pad}
 use Rattle.laws.proofs.Tests.{both-left, both-right, or-cases}
 use Rattle.laws.proofs.Tables.{length-tab, getD-tab, tab-is, replicate-is}
 use Rattle.rules.specs.declared.State.{State}
 use Rattle.rules.specs.declared.Fault.{Fault}
 use Rattle.rules.specs.Sizes.{maxGuests, maxEndpoints, recordWords, tableWords, maxFaults, faultPlaces}
 use Rattle.rules.specs.Configuration.{share, windowFirst, windowLast}
 use Rattle.rules.specs.Table.{records, words, tableOf}
-use Rattle.rules.specs.State.{Log, World, Device, noFault, noLog, configOf, attachment, attachmentAt, domainAt, faultAt, logAt, read, trimmed, flagOf, numberOf, faultPlaced, stateOf}
+use Rattle.rules.specs.State.{Shaped, Log, World, Device, noFault, noLog, configOf, attachment, attachmentAt, domainAt, faultAt, logAt, read, trimmed, flagOf, numberOf, faultPlaced, stateOf}
 use Rattle.rules.specs.Handlers.{outside}
 use Rattle.rules.specs.Sound.{guest, attachmentGood, zeroFrom, faultZero, faultPlaceGood, sound}
 use Rattle.rules.proofs.Words.{length-records, words-split}
 use Rattle.rules.proofs.Zeros.{zero-at}
 use Rattle.rules.proofs.Groups.{Unused, Sound, sound-facts}
 use Rattle.rules.proofs.Reading.{sound-good, sound-listed}
-use Rattle.state.specs.Pieces.{Shaped}
 
 -- a list by index with zero past n is the list that is zero there
 kept-until : (m n : ℕ) (l : List ℕ) → length l ≡ m → zeroFrom n l ≡ true → tab m (λ g. cond (ltb g n) (getD l g 0) 0) ≡ l
