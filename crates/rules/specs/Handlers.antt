@@ -79,6 +79,7 @@ leave o e d p =
     withAttachments (attachedAs e none (o .endpoints) (p .attachments))
     (withRecords (without (λ r. not (exists d (attachedAs e none (o .endpoints) (p .attachments))) && ofKey (keyOf (o .guest) d) r) (p .records)) p)
 
+-- endpoint e, in no domain, enters domain d
 unfoldable pub enter : Own → Endpoint → Domain → Part → Part
 enter o e d p = withAttachments (attachedAs e (some d) (o .endpoints) (p .attachments)) p
 
@@ -114,6 +115,7 @@ attachSteps o d e reserved =
     (not (listed e (o .endpoints)))
     (outside (o .domains .start) (o .domains .end) (d .0))
 
+-- "Then attached, OK."
 unfoldable pub handleAttach : Own → Part → Domain → Endpoint → ℕ → ℕ × Part
 handleAttach o p d e reserved = settle (statusOf (attachSteps o d e reserved)) p (attached o e d p)
 
