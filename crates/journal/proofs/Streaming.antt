@@ -12,12 +12,11 @@ use borrow.Author.Tests.{eqb-true, eqb-false, ne-eqb, not-true}
 use Rattle.laws.proofs.Tests.{either-way, true-false}
 use Rattle.rules.specs.Sizes.{maxGuests, maxEndpoints}
 use Rattle.plain_lines.specs.Plain.{badLine, endLine}
-use Rattle.fetch_lines.specs.Lines.{fetchRoom}
 use Rattle.items.specs.declared.Item.{Item}
 use Rattle.items.specs.declared.Item.the-variants.{Cut, Wrong, NamedGuest, NamedEndpoint, Start, Request, Access, Reset, Fetch}
 use Rattle.playing.specs.declared.player.Player.{Player}
 use Rattle.items.specs.Items.{sizeOf, front}
-use Rattle.playing.specs.Turns.{Turn, idle, allowed, guestTurn, endpointTurn, startTurn, requestTurn, accessTurn, resetTurn, fetchTurn, turnOf, turn}
+use Rattle.playing.specs.Turns.{recordRoom, Turn, idle, allowed, guestTurn, endpointTurn, startTurn, requestTurn, accessTurn, resetTurn, fetchTurn, turnOf, turn}
 use Rattle.journal.specs.Journal.{outputFor, outputFrom, joined, playedFor, continued, Streams}
 use Rattle.items.proofs.Fields.{front-none}
 use Rattle.turns.proofs.Reading.{turn-reads}
@@ -147,7 +146,7 @@ streams-for : (n room at : ℕ) (p : Player) (t s rest : List ℕ) → length s 
 unfolding playedFor
 streams-for zero room at p t s rest a = absurd (omega arith)
 streams-for (suc n) room at p t s rest a =
-    either-way (λ x. outputFrom at p t (s ++ rest) ≡ continued at x s rest) (ltb room fetchRoom)
+    either-way (λ x. outputFrom at p t (s ++ rest) ≡ continued at x s rest) (ltb room recordRoom)
     (λ _. resumed at p t s rest)
     (λ _. either-way (λ x. outputFrom at p t (s ++ rest) ≡ continued at x s rest) (eqb (turn p t s .read) 0)
     (λ e. stopped at p t s rest (eqb-true (turn p t s .read) 0 e))
