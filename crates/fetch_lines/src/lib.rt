@@ -38,6 +38,6 @@ pub fn put_fetch(out: &mut [u8], at: usize, a: Answer, buffer: &[u8]) -> usize
     let head = [70, 32, 48, 32];
     let next = put_bytes(out, at, &head);
     let count = count_of(a);
-    let after = put_decimal(out, next, count as u64);
+    let after = put_decimal(out, next, count as u64, 10);
     put_records(out, after, count, buffer) - at
 }

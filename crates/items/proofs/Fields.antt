@@ -4,13 +4,14 @@ use mathlib.Core.Path.{_≡_, refl, sym, _∙_}
 use mathlib.Core.Bool.{Bool, true, false, cond, _&&_}
 use mathlib.Core.List.{List, [], _∷_}
 use native.Mathlib.Omega.{arith}
-use lib.Dec.{leb}
+use lib.Dec.{leb, eqb}
 use lib.ListN.{length, take}
 use lib.Seq.{take-all}
 use borrow.Author.Tests.{leb-true, leb-false, le-leb, lt-ltb, le-ltb, ne-eqb}
 use Rattle.laws.specs.Bytes.{leField}
+use Rattle.laws.proofs.Tests.{either-way}
 use Rattle.items.specs.declared.Item.the-variants.{Cut, Wrong}
-use Rattle.items.specs.Items.{bodyLength, kindOf, sizeOf, itemOf, front}
+use Rattle.items.specs.Items.{GUEST, ENDPOINT, START, REQUEST20, REQUEST28, REQUEST36, ACCESS, RESET, FETCH, longestBody, bodyLength, kindOf, sizeOf, itemOf, front}
 
 -- a field that is all there
 pub field-there :
@@ -20,6 +21,21 @@ field-there k n x s a b e = e ∙ rw (le-leb n 8 a, le-leb (k + n) (length s) b)
 -- a whole record of a kind has that kind's bytes
 pub sized : (k : ℕ) (s : List ℕ) → kindOf s ≡ k → sizeOf s ≤ length s → bodyLength k < length s
 sized k s e h = rw (sym e) h
+
+-- no body is longer than the longest
+pub body-most : (k : ℕ) → bodyLength k ≤ longestBody
+unfolding bodyLength
+body-most k =
+    let Few : ℕ → Type 0 = λ n. n ≤ longestBody in
+    either-way Few (eqb k GUEST) (λ _. omega arith) (λ _.
+    either-way Few (eqb k ENDPOINT) (λ _. omega arith) (λ _.
+    either-way Few (eqb k START) (λ _. omega arith) (λ _.
+    either-way Few (eqb k REQUEST20) (λ _. omega arith) (λ _.
+    either-way Few (eqb k REQUEST28) (λ _. omega arith) (λ _.
+    either-way Few (eqb k REQUEST36) (λ _. omega arith) (λ _.
+    either-way Few (eqb k ACCESS) (λ _. omega arith) (λ _.
+    either-way Few (eqb k RESET) (λ _. omega arith) (λ _.
+    either-way Few (eqb k FETCH) (λ _. omega arith) (λ _. omega arith)))))))))
 
 -- what stands at the front, by how many bytes there are
 module _ (s : List ℕ) where

@@ -41,6 +41,10 @@ RESET = 34
 abbrev pub FETCH : ℕ
 FETCH = 35
 
+-- the bytes of the longest body: "guest 1, then [..] 36 request bytes"
+abbrev pub longestBody : ℕ
+longestBody = 37
+
 -- the bytes of a body by its kind; 0 for an unknown kind: "0x01 guest: share 2, window 8 + 8. 0x02 endpoint: number 4, owner
 -- 1. 0x03 start: mask 8, input range 8 + 8, domain range 4 + 4. 0x11, 0x12, 0x13: guest 1, then 20, 28 or 36 request bytes.
 -- 0x21: endpoint 4, address 8, 0 read or 1 write. 0x22 reset: guest. 0x23 fetch: guest, records asked (0 to 16)."
@@ -51,7 +55,7 @@ bodyLength k =
     (cond (eqb k START) 32
     (cond (eqb k REQUEST20) 21
     (cond (eqb k REQUEST28) 29
-    (cond (eqb k REQUEST36) 37
+    (cond (eqb k REQUEST36) longestBody
     (cond (eqb k ACCESS) 13
     (cond (eqb k RESET) 1
     (cond (eqb k FETCH) 2 0))))))))

@@ -2,7 +2,7 @@
 ghost use mathlib.Core.Path.{_≡_};
 ghost use Prim.Native.Nat.{_<_, _≤_};
 ghost use lib.ListN.{length};
-ghost use Rattle.items.specs.Items.{bodyLength, kindOf, sizeOf, guestFields, startFields, endpointAt, itemOf};
+ghost use Rattle.items.specs.Items.{longestBody, bodyLength, kindOf, sizeOf, guestFields, startFields, endpointAt, itemOf};
 ghost use Rattle.items.specs.Items as items;
 use rules::DomainRange;
 use rules::Endpoint;
@@ -40,9 +40,12 @@ pub enum Item {
     Fetch(Guest, usize),
 }
 
+// The bytes of the longest body: a guest, and the bytes of the longest request.
+const LONGEST_BODY: usize = 37;
+
 // The bytes of a record's body by its kind, 0 for an unknown kind.
-pub fn body_length(kind: u8) -> usize
-    ensures { λ r. ⌜ (r ≡ bodyLength kind) × (r ≤ 37) ⌝ }
+fn body_length(kind: u8) -> usize
+    ensures { λ r. ⌜ (r ≡ bodyLength kind) × (r ≤ longestBody) ⌝ }
 {
     match kind {
         0x01 => 18,
@@ -50,7 +53,7 @@ pub fn body_length(kind: u8) -> usize
         0x03 => 32,
         0x11 => 21,
         0x12 => 29,
-        0x13 => 37,
+        0x13 => LONGEST_BODY,
         0x21 => 13,
         0x22 => 1,
         0x23 => 2,

@@ -2,3 +2,4 @@ pub mod Repeating
 pub mod Longer
 pub mod Streaming
 pub mod Playing
+pub mod Stopping

@@ -4,12 +4,13 @@ use mathlib.Core.Path.{_≡_, refl, sym, ap, _∙_}
 use mathlib.Core.Bool.{Bool, true, false, cond}
 use mathlib.Core.List.{List, _++_}
 use native.Mathlib.Omega.{arith}
-use lib.Dec.{ltb, eqb}
+use lib.Dec.{leb, ltb, eqb}
 use lib.ListN.{length, getD, take, drop, length-drop, length-append, List·getD-append}
 use lib.Seq.{take-append-le, drop-append-le}
 use borrow.Author.Tests.{eqb-true, eqb-false, ltb-false, ne-eqb, le-ltb}
 use Rattle.laws.specs.Bytes.{leNumber, leField}
 use Rattle.laws.proofs.Tests.{either-way, true-false}
+use Rattle.rules.specs.Sizes.{maxFaults}
 use Rattle.items.specs.declared.Item.{Item}
 use Rattle.items.specs.declared.Item.the-variants.{Cut, Wrong, NamedGuest, NamedEndpoint, Start, Request, Access, Reset, Fetch}
 use Rattle.playing.specs.declared.player.Player.{Player}
@@ -33,6 +34,18 @@ isCut (Request g) = false
 isCut (Access e a k) = false
 isCut (Reset g) = false
 isCut (Fetch g n) = false
+
+-- a whole record is not cut
+pub whole-uncut : (s : List ℕ) → isCut (itemOf s) ≡ false
+unfolding itemOf
+whole-uncut s =
+    let Whole : Item → Type 0 = λ i. isCut i ≡ false in
+    either-way Whole (eqb (kindOf s) GUEST) (λ _. refl) (λ _.
+    either-way Whole (eqb (kindOf s) ENDPOINT) (λ _. refl) (λ _.
+    either-way Whole (eqb (kindOf s) START) (λ _. refl) (λ _.
+    either-way Whole (eqb (kindOf s) ACCESS) (λ _. either-way Whole (leb (getD s 13 0) 1) (λ _. refl) (λ _. refl)) (λ _.
+    either-way Whole (eqb (kindOf s) RESET) (λ _. refl) (λ _.
+    either-way Whole (eqb (kindOf s) FETCH) (λ _. either-way Whole (leb (getD s 2 0) maxFaults) (λ _. refl) (λ _. refl)) (λ _. refl))))))
 
 module _ (s rest : List ℕ) where
   field-more : (k n : ℕ) → k + n ≤ length s → leField k n (s ++ rest) ≡ leField k n s

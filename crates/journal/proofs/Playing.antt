@@ -8,10 +8,9 @@ use native.Mathlib.Omega.{arith}
 use lib.ListN.{length, take, drop, length-append, length-drop, take-append-drop}
 use lib.Seq.{length-take-le, take-append-add, drop-append-add, take-append-seam, drop-append-seam, drop-drop}
 use Rattle.printing.specs.Placing.{placed}
-use Rattle.fetch_lines.specs.Lines.{fetchRoom}
 use Rattle.playing.specs.declared.player.Player.{Player}
 use Rattle.playing.specs.declared.player.Turned.{Turned}
-use Rattle.playing.specs.Turns.{Turn, turn}
+use Rattle.playing.specs.Turns.{recordRoom, Turn, turn}
 use Rattle.journal.specs.Journal.{joined, played}
 use Rattle.playing.specs.Telling.{turned, Tells}
 use Rattle.journal.proofs.Repeating.{play-full, play-stop, play-step}
@@ -89,7 +88,7 @@ module _ (p₀ : Player) (t₀ s start : List ℕ) where
       }
 
   -- one more turn, from what was worked so far
-  module _ (p : Player) (t out : List ℕ) (read printed : ℕ) (w : Went p t out read printed) (room : fetchRoom ≤ length start - printed) (r : Turned) (t′ out′ : List ℕ) (tells : Tells r t′ out out′ printed (turn p t (drop read s))) (whole : length out′ ≡ length start) where
+  module _ (p : Player) (t out : List ℕ) (read printed : ℕ) (w : Went p t out read printed) (room : recordRoom ≤ length start - printed) (r : Turned) (t′ out′ : List ℕ) (tells : Tells r t′ out out′ printed (turn p t (drop read s))) (whole : length out′ ≡ length start) where
     abbrev X : Turn
     X = turn p t (drop read s)
 
@@ -135,7 +134,7 @@ module _ (p₀ : Player) (t₀ s start : List ℕ) where
         })
 
   -- there is no room for the lines of one more
-  pub fills : (p : Player) (t out : List ℕ) (read printed : ℕ) → Went p t out read printed → length start - printed < fetchRoom → Tells (turned p read printed false) t start out 0 (played (length start) p₀ t₀ s)
+  pub fills : (p : Player) (t out : List ℕ) (read printed : ℕ) → Went p t out read printed → length start - printed < recordRoom → Tells (turned p read printed false) t start out 0 (played (length start) p₀ t₀ s)
   fills p t out read printed w h =
       rw (w .total, play-full (length start - printed) p t (drop read s) h)
       (record {

@@ -7,9 +7,8 @@ use native.Mathlib.Omega.{arith}
 use lib.Dec.{ltb, eqb}
 use lib.ListN.{length, drop, length-drop}
 use borrow.Author.Tests.{eqb-false, ne-eqb, lt-ltb, le-ltb}
-use Rattle.fetch_lines.specs.Lines.{fetchRoom}
 use Rattle.playing.specs.declared.player.Player.{Player}
-use Rattle.playing.specs.Turns.{turn, idle}
+use Rattle.playing.specs.Turns.{recordRoom, turn, idle}
 use Rattle.journal.specs.Journal.{joined, playedFor, played}
 use Rattle.turns.proofs.Reading.{turn-reads}
 
@@ -25,7 +24,7 @@ enough zero m room p t s a b = absurd (omega arith)
 enough (suc n) zero room p t s a b = absurd (omega arith)
 enough (suc n) (suc m) room p t s a b =
     ap
-    (λ z. cond (ltb room fetchRoom) (idle p t false) z)
+    (λ z. cond (ltb room recordRoom) (idle p t false) z)
     (either-same (eqb (turn p t s .read) 0) _ _ _ (λ e.
     let r = eqb-false (turn p t s .read) 0 e in
     let l = length-drop (turn p t s .read) s in
@@ -33,18 +32,18 @@ enough (suc n) (suc m) room p t s a b =
 
 module _ (room : ℕ) (p : Player) (t s : List ℕ) where
   -- no room for the lines of one more
-  pub play-full : room < fetchRoom → played room p t s ≡ idle p t false
+  pub play-full : room < recordRoom → played room p t s ≡ idle p t false
   unfolding playedFor
-  play-full h = rw (lt-ltb room fetchRoom h)
+  play-full h = rw (lt-ltb room recordRoom h)
 
   -- no record is worked
-  pub play-stop : fetchRoom ≤ room → turn p t s .read ≡ 0 → played room p t s ≡ turn p t s
+  pub play-stop : recordRoom ≤ room → turn p t s .read ≡ 0 → played room p t s ≡ turn p t s
   unfolding playedFor
-  play-stop h e = rw (le-ltb room fetchRoom h, e)
+  play-stop h e = rw (le-ltb room recordRoom h, e)
 
   -- one record, then what follows it
-  pub play-step : fetchRoom ≤ room → 0 < turn p t s .read → played room p t s ≡ joined (turn p t s) (played (room - length (turn p t s .printed)) (turn p t s .player) (turn p t s .table) (drop (turn p t s .read) s))
+  pub play-step : recordRoom ≤ room → 0 < turn p t s .read → played room p t s ≡ joined (turn p t s) (played (room - length (turn p t s .printed)) (turn p t s .player) (turn p t s .table) (drop (turn p t s .read) s))
   unfolding playedFor
   play-step h l =
-      rw (le-ltb room fetchRoom h, ne-eqb (turn p t s .read) 0 (λ z. omega arith))
+      rw (le-ltb room recordRoom h, ne-eqb (turn p t s .read) 0 (λ z. omega arith))
       (ap (joined (turn p t s)) (enough (length s) (suc (length (drop (turn p t s .read) s))) _ _ _ _ (omega (arith, length-drop (turn p t s .read) s, turn-reads p t s)) (omega arith)))

@@ -1,7 +1,7 @@
 -- A journal may be cut anywhere.
 use Prim.Native.Nat.{ℕ, zero, suc, _+_, _-_, _<_}
 use mathlib.Core.Path.{_≡_, refl, sym, ap, _∙_}
-use mathlib.Core.Bool.{Bool, true, false, cond, not, _&&_}
+use mathlib.Core.Bool.{Bool, true, false, cond, not, _&&_, and-false}
 use mathlib.Core.List.{List, _++_, append-assoc}
 use native.Mathlib.Nat.{add-zero}
 use native.Mathlib.Omega.{arith}
@@ -12,13 +12,12 @@ use borrow.Author.Tests.{eqb-true, eqb-false, ne-eqb, not-true}
 use Rattle.laws.proofs.Tests.{either-way, true-false}
 use Rattle.rules.specs.Sizes.{maxGuests, maxEndpoints}
 use Rattle.plain_lines.specs.Plain.{badLine, endLine}
-use Rattle.fetch_lines.specs.Lines.{fetchRoom}
 use Rattle.items.specs.declared.Item.{Item}
 use Rattle.items.specs.declared.Item.the-variants.{Cut, Wrong, NamedGuest, NamedEndpoint, Start, Request, Access, Reset, Fetch}
 use Rattle.playing.specs.declared.player.Player.{Player}
 use Rattle.items.specs.Items.{sizeOf, front}
-use Rattle.playing.specs.Turns.{Turn, idle, allowed, guestTurn, endpointTurn, startTurn, requestTurn, accessTurn, resetTurn, fetchTurn, turnOf, turn}
-use Rattle.journal.specs.Journal.{outputFor, outputFrom, joined, playedFor, continued, Streams}
+use Rattle.playing.specs.Turns.{recordRoom, Turn, idle, allowed, guestTurn, endpointTurn, startTurn, requestTurn, accessTurn, resetTurn, fetchTurn, turnOf, turn}
+use Rattle.journal.specs.Journal.{outputFor, outputFrom, joined, playedFor, played, Streams}
 use Rattle.items.proofs.Fields.{front-none}
 use Rattle.turns.proofs.Reading.{turn-reads}
 use Rattle.journal.proofs.Longer.{isCut, same-choice, turn-more}
@@ -27,7 +26,7 @@ use Rattle.journal.proofs.Longer.{isCut, same-choice, turn-more}
 
 module _ (p : Player) (t s : List ℕ) where
   -- a turn that reads nothing changes nothing, and is bad unless the record is cut
-  record Idle (i : Item) (x : Turn) : Type 0 where
+  pub record Idle (i : Item) (x : Turn) : Type 0 where
     pub same : x ≡ idle p t (x .bad)
     pub cut : x .bad ≡ not (isCut i)
 
@@ -47,7 +46,7 @@ module _ (p : Player) (t s : List ℕ) where
   idles (Reset g) h = may-idle (p .started) (Reset g) (resetTurn p t s g) refl refl h
   idles (Fetch g n) h = may-idle (p .started) (Fetch g n) (fetchTurn p t s g n) refl refl h
 
-  turn-idle : turn p t s .read ≡ 0 → Idle (front s) (turn p t s)
+  pub turn-idle : turn p t s .read ≡ 0 → Idle (front s) (turn p t s)
   unfolding turn
   turn-idle h = idles (front s) h
 
@@ -91,7 +90,7 @@ outputs-enough (suc n) (suc m) at p t s a b =
     ap (λ z. turn p t s .printed ++ z) (outputs-enough n m _ _ _ _ (omega (arith, r, l, turn-reads p t s)) (omega (arith, r, l, turn-reads p t s)))))
 
 module _ (at : ℕ) (p : Player) (t s : List ℕ) where
-  output-bad : 0 < length s → turn p t s .read ≡ 0 → outputFrom at p t s ≡ badLine at
+  pub output-bad : 0 < length s → turn p t s .read ≡ 0 → outputFrom at p t s ≡ badLine at
   unfolding outputFor
   output-bad l e = rw (ne-eqb (length s) 0 (λ z. omega arith), e)
 
@@ -104,59 +103,81 @@ module _ (at : ℕ) (p : Player) (t s : List ℕ) where
 
 -- THE PARTS
 
-module _ (at : ℕ) (p : Player) (t s rest : List ℕ) where
+-- what a journal prints whose first part s was worked so far: that the part is bad is told at once where b says so, and else
+-- found again in what is left
+abbrev after : Bool → ℕ → Turn → List ℕ → List ℕ → List ℕ
+after b at x s rest =
+    x .printed ++ cond (b && x .bad) (badLine (at + x .read)) (outputFrom (at + x .read) (x .player) (x .table) (drop (x .read) s ++ rest))
+
+-- what is equal to both of two is equal to the one that a test picks
+as-picked : {A : Type 0} (b : Bool) {x y z : A} → z ≡ x → z ≡ y → z ≡ cond b x y
+as-picked true f g = f
+as-picked false f g = g
+
+module _ (b : Bool) (at : ℕ) (p : Player) (t s rest : List ℕ) where
+  whole : outputFrom at p t (s ++ rest) ≡ outputFrom (at + 0) p t (s ++ rest)
+  whole = ap (λ z. outputFrom z p t (s ++ rest)) (sym (add-zero at))
+
   -- nothing was read yet
-  resumed : outputFrom at p t (s ++ rest) ≡ continued at (idle p t false) s rest
-  resumed = ap (λ z. outputFrom z p t (s ++ rest)) (sym (add-zero at))
+  resumed : outputFrom at p t (s ++ rest) ≡ after b at (idle p t false) s rest
+  resumed = rw (and-false b) whole
 
   -- the first record is not worked
-  stopped-with : (b : Bool) → turn p t s .bad ≡ b → turn p t s .read ≡ 0 → outputFrom at p t (s ++ rest) ≡ continued at (idle p t b) s rest
+  stopped-with : (c : Bool) → turn p t s .bad ≡ c → turn p t s .read ≡ 0 → outputFrom at p t (s ++ rest) ≡ after b at (idle p t c) s rest
   stopped-with false e h = resumed
   stopped-with true e h =
       let c : isCut (front s) ≡ false = not-true (isCut (front s)) (sym (turn-idle p t s h .cut) ∙ e) in
       let m : turn p t (s ++ rest) ≡ turn p t s = turn-more s rest p t c in
-      output-bad at p t (s ++ rest) (omega (arith, there s c, length-append s rest)) (ap (λ x. x .read) m ∙ h) ∙ ap badLine (sym (add-zero at))
+      as-picked (b && true)
+      (output-bad at p t (s ++ rest) (omega (arith, there s c, length-append s rest)) (ap (λ x. x .read) m ∙ h) ∙ ap badLine (sym (add-zero at)))
+      whole
 
-  stopped : turn p t s .read ≡ 0 → outputFrom at p t (s ++ rest) ≡ continued at (turn p t s) s rest
-  stopped h = stopped-with (turn p t s .bad) refl h ∙ ap (λ x. continued at x s rest) (sym (turn-idle p t s h .same))
+  stopped : turn p t s .read ≡ 0 → outputFrom at p t (s ++ rest) ≡ after b at (turn p t s) s rest
+  stopped h = stopped-with (turn p t s .bad) refl h ∙ ap (λ x. after b at x s rest) (sym (turn-idle p t s h .same))
 
   -- a record worked is not cut
   uncut : 0 < turn p t s .read → isCut (front s) ≡ false
   uncut l = go (isCut (front s)) refl
     where
-      go : (b : Bool) → isCut (front s) ≡ b → isCut (front s) ≡ false
+      go : (c : Bool) → isCut (front s) ≡ c → isCut (front s) ≡ false
       go true e = absurd (omega (arith, cut-reads p t s e))
       go false e = e
 
   -- the first record is worked, and then what follows it
   went : (y : Turn)
       → 0 < turn p t s .read
-      → outputFrom (at + turn p t s .read) (turn p t s .player) (turn p t s .table) (drop (turn p t s .read) s ++ rest) ≡ continued (at + turn p t s .read) y (drop (turn p t s .read) s) rest
-      → outputFrom at p t (s ++ rest) ≡ continued at (joined (turn p t s) y) s rest
+      → outputFrom (at + turn p t s .read) (turn p t s .player) (turn p t s .table) (drop (turn p t s .read) s ++ rest) ≡ after b (at + turn p t s .read) y (drop (turn p t s .read) s) rest
+      → outputFrom at p t (s ++ rest) ≡ after b at (joined (turn p t s) y) s rest
   went y l h =
       let m : turn p t (s ++ rest) ≡ turn p t s = turn-more s rest p t (uncut l) in
       let d : drop (turn p t s .read) (s ++ rest) ≡ drop (turn p t s .read) s ++ rest = drop-append-le (turn p t s .read) s rest (turn-reads p t s) in
       let o = output-step at p t (s ++ rest) (rw m l) in
       let e : drop (y .read) (drop (turn p t s .read) s) ≡ drop (turn p t s .read + y .read) s = drop-drop (y .read) (turn p t s .read) s in
       let f : (at + turn p t s .read) + y .read ≡ at + (turn p t s .read + y .read) = omega arith in
-      let q : outputFrom at p t (s ++ rest) ≡ turn p t s .printed ++ continued (at + turn p t s .read) y (drop (turn p t s .read) s) rest = rw (sym h) (rw (m, d) at o) in
-      let x : List ℕ = cond (y .bad) (badLine ((at + turn p t s .read) + y .read)) (outputFrom ((at + turn p t s .read) + y .read) (y .player) (y .table) (drop (y .read) (drop (turn p t s .read) s) ++ rest)) in
+      let q : outputFrom at p t (s ++ rest) ≡ turn p t s .printed ++ after b (at + turn p t s .read) y (drop (turn p t s .read) s) rest = rw (sym h) (rw (m, d) at o) in
+      let x : List ℕ = cond (b && y .bad) (badLine ((at + turn p t s .read) + y .read)) (outputFrom ((at + turn p t s .read) + y .read) (y .player) (y .table) (drop (y .read) (drop (turn p t s .read) s) ++ rest)) in
       q ∙ sym (append-assoc (turn p t s .printed) (y .printed) x) ∙ rw (e, f)
 
-streams-for : (n room at : ℕ) (p : Player) (t s rest : List ℕ) → length s < n → outputFrom at p t (s ++ rest) ≡ continued at (playedFor n room p t s) s rest
+streams-for : (b : Bool) (n room at : ℕ) (p : Player) (t s rest : List ℕ) → length s < n → outputFrom at p t (s ++ rest) ≡ after b at (playedFor n room p t s) s rest
 unfolding playedFor
-streams-for zero room at p t s rest a = absurd (omega arith)
-streams-for (suc n) room at p t s rest a =
-    either-way (λ x. outputFrom at p t (s ++ rest) ≡ continued at x s rest) (ltb room fetchRoom)
-    (λ _. resumed at p t s rest)
-    (λ _. either-way (λ x. outputFrom at p t (s ++ rest) ≡ continued at x s rest) (eqb (turn p t s .read) 0)
-    (λ e. stopped at p t s rest (eqb-true (turn p t s .read) 0 e))
+streams-for b zero room at p t s rest a = absurd (omega arith)
+streams-for b (suc n) room at p t s rest a =
+    either-way (λ x. outputFrom at p t (s ++ rest) ≡ after b at x s rest) (ltb room recordRoom)
+    (λ _. resumed b at p t s rest)
+    (λ _. either-way (λ x. outputFrom at p t (s ++ rest) ≡ after b at x s rest) (eqb (turn p t s .read) 0)
+    (λ e. stopped b at p t s rest (eqb-true (turn p t s .read) 0 e))
     (λ e.
     let r = eqb-false (turn p t s .read) 0 e in
-    went at p t s rest (playedFor n (room - length (turn p t s .printed)) (turn p t s .player) (turn p t s .table) (drop (turn p t s .read) s)) (omega (arith, r))
-    (streams-for n (room - length (turn p t s .printed)) (at + turn p t s .read) (turn p t s .player) (turn p t s .table) (drop (turn p t s .read) s) rest
+    went b at p t s rest (playedFor n (room - length (turn p t s .printed)) (turn p t s .player) (turn p t s .table) (drop (turn p t s .read) s)) (omega (arith, r))
+    (streams-for b n (room - length (turn p t s .printed)) (at + turn p t s .read) (turn p t s .player) (turn p t s .table) (drop (turn p t s .read) s) rest
     (omega (arith, r, length-drop (turn p t s .read) s, turn-reads p t s)))))
 
 -- the claim of specs/Journal.antt
 pub streams : Streams
-streams room at p t s rest = streams-for (suc (length s)) room at p t s rest (omega arith)
+streams room at p t s rest = streams-for true (suc (length s)) room at p t s rest (omega arith)
+
+-- what is left of a part may be worked again with the rest: also where it is bad
+pub resumes : (room at : ℕ) (p : Player) (t s rest : List ℕ) →
+    let x = played room p t s in
+    outputFrom at p t (s ++ rest) ≡ x .printed ++ outputFrom (at + x .read) (x .player) (x .table) (drop (x .read) s ++ rest)
+resumes room at p t s rest = streams-for false (suc (length s)) room at p t s rest (omega arith)

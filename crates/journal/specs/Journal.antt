@@ -7,9 +7,8 @@ use lib.Dec.{ltb, eqb}
 use lib.ListN.{length, drop, replicate}
 use Rattle.rules.specs.Sizes.{tableWords}
 use Rattle.plain_lines.specs.Plain.{badLine, endLine}
-use Rattle.fetch_lines.specs.Lines.{fetchRoom}
 use Rattle.playing.specs.declared.player.Player.{Player}
-use Rattle.playing.specs.Turns.{Turn, turn, fresh, idle}
+use Rattle.playing.specs.Turns.{recordRoom, Turn, turn, fresh, idle}
 
 -- what the rest s of a journal prints, from offset `at` on: "prints `bad journal at N` (N the kind byte's offset, decimal) and
 -- stops. A journal read to its end, an empty one too, prints `E` last." Each record has a byte at least, so more than
@@ -36,7 +35,7 @@ joined x y = record { player = y .player; table = y .table; read = x .read + y .
 unfoldable pub playedFor : ℕ → ℕ → Player → List ℕ → List ℕ → Turn
 playedFor zero room p t s = idle p t false
 playedFor (suc n) room p t s =
-    cond (ltb room fetchRoom) (idle p t false)
+    cond (ltb room recordRoom) (idle p t false)
     (cond (eqb (turn p t s .read) 0) (turn p t s)
     (joined (turn p t s)
     (playedFor n (room - length (turn p t s .printed)) (turn p t s .player) (turn p t s .table) (drop (turn p t s .read) s))))

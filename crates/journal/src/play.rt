@@ -4,12 +4,12 @@ ghost use lib.ListN.{length};
 ghost use mathlib.Core.Path.{_≡_};
 ghost use Rattle.journal.specs.Journal.{played};
 ghost use Rattle.playing.specs.Telling.{Tells};
-use fetch_lines::FETCH_ROOM;
 use playing::player::Player;
+use playing::player::RECORD_ROOM;
 use playing::player::Turned;
 
 // A place n places on, which is not past the end.
-fn advanced(at: usize, n: usize, end: usize) -> usize
+fn past(at: usize, n: usize, end: usize) -> usize
     requires { ⌜ at + n ≤ end ⌝ }
     ensures { λ r. ⌜ r ≡ at + n ⌝ }
 {
@@ -23,11 +23,11 @@ pub fn play(p: Player, t: &mut [u64], s: &[u8], out: &mut [u8]) -> Turned
     let mut player = p;
     let mut read: usize = 0;
     let mut printed: usize = 0;
-    while out.len() - printed >= FETCH_ROOM {
+    while out.len() - printed >= RECORD_ROOM {
         let x = turns::turn(player, t, &s[read..], out, printed);
         player = x.player;
-        read = advanced(read, x.read, s.len());
-        printed = advanced(printed, x.printed, out.len());
+        read = past(read, x.read, s.len());
+        printed = past(printed, x.printed, out.len());
         if x.read == 0 {
             return Turned {
                 player,

@@ -11,9 +11,12 @@ use printing::put_bytes;
 use printing::put_decimal;
 use rules::Answer;
 ghost use mathlib.Core.Path.{_≡_};
-ghost use lib.ListN.{getD};
-ghost use Rattle.lines.specs.Lines.{requestLine, accessLine};
+ghost use Prim.Native.Nat.{_-_};
+ghost use Rattle.lines.specs.Lines.{statusSize, statusIn, requestLine, accessLine};
 ghost use Rattle.printing.specs.Placing.{lineRoom, written, writtenCount};
+
+// The bytes of a status with those reserved after it.
+const STATUS_SIZE: usize = 4;
 
 // Puts a request's number, used length and status; a dash for the status where the request was not worked.
 pub fn put_request(out: &mut [u8], at: usize, a: Answer, writable: &[u8]) -> usize
@@ -23,13 +26,14 @@ pub fn put_request(out: &mut [u8], at: usize, a: Answer, writable: &[u8]) -> usi
         return 0;
     }
     let number = number_of(a);
-    let head = [82, 32, 48 + number, 32, 48 + used_of(a) as u8, 32];
+    let head = [82, 32, 48 + number, 32];
     let next = put_bytes(out, at, &head);
+    let after = put_decimal(out, next, used_of(a) as u64, 32);
     if number != 0 {
         let none = [45, 10];
-        return put_bytes(out, next, &none) - at;
+        return put_bytes(out, after, &none) - at;
     }
-    put_decimal(out, next, status_of(writable)) - at
+    put_decimal(out, after, status_in(writable), 10) - at
 }
 
 // Puts an access's number, and the address where it goes through.
@@ -48,12 +52,24 @@ pub fn put_access(out: &mut [u8], at: usize, a: Answer) -> usize
     put_bytes(out, next, &line) - at
 }
 
+// Where the status stands in a writable part of so many bytes.
+fn status_place(len: usize) -> usize
+    ensures { λ r. ⌜ r ≡ len - statusSize ⌝ }
+{
+    if len < STATUS_SIZE {
+        0
+    } else {
+        len - STATUS_SIZE
+    }
+}
+
 // The status in a writable part, or 0 in an empty one.
-fn status_of(writable: &[u8]) -> u64
-    ensures { λ r. ⌜ r ≡ getD (now (writable .entry)) 0 0 ⌝ }
+fn status_in(writable: &[u8]) -> u64
+    ensures { λ r. ⌜ r ≡ statusIn (now (writable .entry)) ⌝ }
 {
     if writable.len() == 0 {
         return 0;
     }
-    writable[0] as u64
+    let at = status_place(writable.len());
+    writable[at] as u64
 }

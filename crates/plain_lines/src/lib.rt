@@ -31,18 +31,18 @@ pub fn put_number(out: &mut [u8], at: usize, letter: u8, a: Answer) -> usize
 }
 
 // Puts the offset at which a journal is bad.
-pub fn put_bad(out: &mut [u8], at: usize, offset: u64) -> usize
+fn put_bad(out: &mut [u8], at: usize, offset: u64) -> usize
     ensures { λ r. ⌜ (r ≡ writtenCount lineRoom at (badLine offset) (now (out .entry))) × (now (out .exit) ≡ written lineRoom at (badLine offset) (now (out .entry))) ⌝ }
 {
     if !has_room(out.len(), at, LINE_ROOM) {
         return 0;
     }
     let next = put_bytes(out, at, b"bad journal at ");
-    put_decimal(out, next, offset) - at
+    put_decimal(out, next, offset, 10) - at
 }
 
 // Puts the last line of a journal that was read to its end.
-pub fn put_end(out: &mut [u8], at: usize) -> usize
+fn put_end(out: &mut [u8], at: usize) -> usize
     ensures { λ r. ⌜ (r ≡ writtenCount lineRoom at endLine (now (out .entry))) × (now (out .exit) ≡ written lineRoom at endLine (now (out .entry))) ⌝ }
 {
     if !has_room(out.len(), at, LINE_ROOM) {

@@ -7,12 +7,11 @@ use lib.Dec.{leb, ltb}
 use lib.ListN.{length}
 use borrow.Author.Tests.{le-leb, le-ltb, lt-ltb}
 use Rattle.printing.proofs.Places.{placed-none}
-use Rattle.fetch_lines.specs.Lines.{fetchRoom}
 use Rattle.playing.specs.declared.player.Player.{Player}
 use Rattle.playing.specs.declared.player.Turned.{Turned}
 use Rattle.items.specs.declared.Item.{Item}
 use Rattle.items.specs.Items.{sizeOf, front}
-use Rattle.playing.specs.Turns.{Turn, allowed, done, turnOf, turn, turnIn}
+use Rattle.playing.specs.Turns.{recordRoom, Turn, allowed, done, turnOf, turn, turnIn}
 use Rattle.playing.specs.Telling.{turned, Tells}
 
 -- nothing is printed: no record is worked, or one that names a guest or an endpoint
@@ -46,7 +45,7 @@ module _ (p : Player) (n most : ℕ) (s : List ℕ) (q : Player) {r : Turned} wh
 module _ (p : Player) (t s : List ℕ) where
   pub tells-turn :
       {r : Turned} {words out left : List ℕ} {k : ℕ} {i : Item}
-      → leb (k + fetchRoom) (length out) ≡ true
+      → leb (k + recordRoom) (length out) ≡ true
       → front s ≡ i
       → Tells r words out left k (turnOf p t s i)
       → Tells r words out left k (turnIn (length out) k p t s)
@@ -54,11 +53,11 @@ module _ (p : Player) (t s : List ℕ) where
   tells-turn h e g = rw (h, e) g
 
   -- and where there may be none
-  pub tells-full : {r : Turned} {out : List ℕ} {k : ℕ} → leb (k + fetchRoom) (length out) ≡ false → r ≡ turned p 0 0 false → Tells r t out out k (turnIn (length out) k p t s)
+  pub tells-full : {r : Turned} {out : List ℕ} {k : ℕ} → leb (k + recordRoom) (length out) ≡ false → r ≡ turned p 0 0 false → Tells r t out out k (turnIn (length out) k p t s)
   unfolding turnIn
   tells-full h e = rw h (tells-silent e)
 
 -- what is told of a turn that had room
-pub told-in-room : (r : Turned) (p : Player) (t s words out left : List ℕ) (k : ℕ) → k + fetchRoom ≤ length out → Tells r words out left k (turnIn (length out) k p t s) → Tells r words out left k (turn p t s)
+pub told-in-room : (r : Turned) (p : Player) (t s words out left : List ℕ) (k : ℕ) → k + recordRoom ≤ length out → Tells r words out left k (turnIn (length out) k p t s) → Tells r words out left k (turn p t s)
 unfolding turnIn
-told-in-room r p t s words out left k h x = rw (le-leb (k + fetchRoom) (length out) h) at x
+told-in-room r p t s words out left k h x = rw (le-leb (k + recordRoom) (length out) h) at x

@@ -22,6 +22,10 @@ use Rattle.playing.specs.declared.player.Player.{Player}
 use Rattle.items.specs.Items.{front, sizeOf, requestBytes}
 use Rattle.playing.specs.Naming.{guestNamed, endpointNamed, rangesNamed}
 
+-- the bytes that the lines of one record may take: a fetch's are the most
+abbrev pub recordRoom : ℕ
+recordRoom = fetchRoom
+
 -- what a record leaves: the player, the table, the bytes read (0: no record was worked) and printed, and whether the journal is bad here
 pub record Turn : Type 0 where
   pub player : Player
@@ -114,4 +118,4 @@ turn p t s = turnOf p t s (front s)
 
 -- the same where a buffer of so many bytes has room for the lines of one record from place k on; else none is worked
 unfoldable pub turnIn : ℕ → ℕ → Player → List ℕ → List ℕ → Turn
-turnIn room k p t s = cond (leb (k + fetchRoom) room) (turn p t s) (idle p t false)
+turnIn room k p t s = cond (leb (k + recordRoom) room) (turn p t s) (idle p t false)

@@ -7,8 +7,8 @@ ghost use Rattle.playing.specs.Telling.{Tells};
 use crate::naming;
 use crate::player::Player;
 use crate::player::Turned;
+use crate::results::consumed;
 use crate::results::idle;
-use crate::results::worked;
 use items::GuestFields;
 use rules::Endpoint;
 use rules::Guest;
@@ -27,7 +27,7 @@ pub fn guest(p: Player, s: &[u8], f: GuestFields) -> Turned
     if settings.guests >= MAX_GUESTS {
         return idle(p, true);
     }
-    worked(false, naming::name_guest(state, f), items::size_of(s), 0)
+    consumed(false, naming::name_guest(state, f), items::size_of(s), 0)
 }
 
 // An endpoint is named, unless it is the 33rd or the journal has started.
@@ -41,7 +41,7 @@ pub fn endpoint(p: Player, s: &[u8], e: Endpoint, g: Guest) -> Turned
     if state.listed >= MAX_ENDPOINTS {
         return idle(p, true);
     }
-    worked(
+    consumed(
         false,
         naming::name_endpoint(state, e, g),
         items::size_of(s),

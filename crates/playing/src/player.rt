@@ -1,7 +1,11 @@
 // How far a journal has come.
 ghost use mathlib.Core.Path.{_≡_};
 ghost use Rattle.playing.specs.Turns as turns;
+use fetch_lines::FETCH_ROOM;
 use rules::State;
+
+// The bytes that the lines of one record may take: a fetch's are the most.
+pub const RECORD_ROOM: usize = FETCH_ROOM;
 
 // Before the start the state holds the configuration named so far, in the places that set-up fills; after it, the device's state.
 pub struct Player {

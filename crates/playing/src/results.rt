@@ -19,7 +19,7 @@ pub fn idle(p: Player, bad: bool) -> Turned
 }
 
 // A record of n bytes is worked, and k bytes are printed.
-pub fn worked(started: bool, state: State, n: usize, k: usize) -> Turned
+pub fn consumed(started: bool, state: State, n: usize, k: usize) -> Turned
     ensures { λ r. ⌜ r ≡ turned (record { started = started; state = state }) n k false ⌝ }
 {
     Turned {

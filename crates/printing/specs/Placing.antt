@@ -9,6 +9,10 @@ use lib.ListN.{length, take, drop}
 unfoldable pub placed : ℕ → List ℕ → List ℕ → List ℕ
 placed k line out = take k out ++ (line ++ drop (k + length line) out)
 
+-- the bytes that a number of 64 bits in decimal may take: 20 digits, and the byte that ends it
+abbrev pub decimalRoom : ℕ
+decimalRoom = 21
+
 -- the bytes that a line may take: any but a fetch's
 abbrev pub lineRoom : ℕ
 lineRoom = 64

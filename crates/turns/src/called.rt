@@ -8,8 +8,7 @@ ghost use Rattle.items.specs.Items.{Fits, sizeOf};
 ghost use Rattle.rules.specs.Sizes.{maxFaults, faultSize};
 ghost use Rattle.rules.specs.Device.{step, fetch-for};
 ghost use Rattle.effects.specs.Flat.{device};
-ghost use Rattle.fetch_lines.specs.Lines.{fetchRoom};
-ghost use Rattle.playing.specs.Turns.{running, turnOf, fetchedTurn};
+ghost use Rattle.playing.specs.Turns.{recordRoom, running, turnOf, fetchedTurn};
 ghost use Rattle.playing.specs.Telling.{turned, Tells};
 use effects::Given;
 use fetch_lines::put_fetch;
@@ -19,8 +18,8 @@ use lines::put_request;
 use playing::naming;
 use playing::player::Player;
 use playing::player::Turned;
+use playing::results::consumed;
 use playing::results::idle;
-use playing::results::worked;
 use rules::Endpoint;
 use rules::Guest;
 use rules::State;
@@ -31,7 +30,7 @@ use rules::sizes::MAX_FAULTS;
 fn finished(given: Given, s: &[u8], k: usize) -> Turned
     ensures { λ r. ⌜ r ≡ turned (running (given .state)) (sizeOf (now (s .entry))) k false ⌝ }
 {
-    worked(true, given.state, items::size_of(s), k)
+    consumed(true, given.state, items::size_of(s), k)
 }
 
 // The letters of a start's and a reset's line.
@@ -48,7 +47,7 @@ pub(crate) fn start(
     out: &mut [u8],
     at: usize,
 ) -> Turned
-    requires { ⌜ at + fetchRoom ≤ length (now out) ⌝ }
+    requires { ⌜ at + recordRoom ≤ length (now out) ⌝ }
     ensures { λ r. ⌜ Tells r (now (t .exit)) (now (out .entry)) (now (out .exit)) at (turnOf p (now (t .entry)) (now (s .entry)) (item.Start f)) ⌝ }
 {
     if p.started {
@@ -69,7 +68,7 @@ pub(crate) fn request(
     out: &mut [u8],
     at: usize,
 ) -> Turned
-    requires { ⌜ Fits (now s) × (at + fetchRoom ≤ length (now out)) ⌝ }
+    requires { ⌜ Fits (now s) × (at + recordRoom ≤ length (now out)) ⌝ }
     ensures { λ r. ⌜ Tells r (now (t .exit)) (now (out .entry)) (now (out .exit)) at (turnOf p (now (t .entry)) (now (s .entry)) (item.Request g)) ⌝ }
 {
     if !p.started {
@@ -94,7 +93,7 @@ pub(crate) fn access(
     out: &mut [u8],
     at: usize,
 ) -> Turned
-    requires { ⌜ at + fetchRoom ≤ length (now out) ⌝ }
+    requires { ⌜ at + recordRoom ≤ length (now out) ⌝ }
     ensures { λ r. ⌜ Tells r (now (t .entry)) (now (out .entry)) (now (out .exit)) at (turnOf p (now (t .entry)) (now (s .entry)) (item.Access e address kind)) ⌝ }
 {
     if !p.started {
@@ -115,7 +114,7 @@ pub(crate) fn reset(
     out: &mut [u8],
     at: usize,
 ) -> Turned
-    requires { ⌜ at + fetchRoom ≤ length (now out) ⌝ }
+    requires { ⌜ at + recordRoom ≤ length (now out) ⌝ }
     ensures { λ r. ⌜ Tells r (now (t .exit)) (now (out .entry)) (now (out .exit)) at (turnOf p (now (t .entry)) (now (s .entry)) (item.Reset g)) ⌝ }
 {
     if !p.started {
@@ -140,7 +139,7 @@ fn fetch_into(
     out: &mut [u8],
     at: usize,
 ) -> Turned
-    requires { ⌜ (length (now buffer) ≤ faultSize * maxFaults) × (at + fetchRoom ≤ length (now out)) ⌝ }
+    requires { ⌜ (length (now buffer) ≤ faultSize * maxFaults) × (at + recordRoom ≤ length (now out)) ⌝ }
     ensures { λ r. ⌜ Tells r (now (t .entry)) (now (out .entry)) (now (out .exit)) at (fetchedTurn (now (s .entry)) (step (device state (now (t .entry))) (fetch-for g (now (buffer .entry))))) ⌝ }
 {
     let given = fetches::fetch(state, t, g, buffer);
@@ -159,7 +158,7 @@ pub(crate) fn fetch(
     out: &mut [u8],
     at: usize,
 ) -> Turned
-    requires { ⌜ (n ≤ maxFaults) × (at + fetchRoom ≤ length (now out)) ⌝ }
+    requires { ⌜ (n ≤ maxFaults) × (at + recordRoom ≤ length (now out)) ⌝ }
     ensures { λ r. ⌜ Tells r (now (t .entry)) (now (out .entry)) (now (out .exit)) at (turnOf p (now (t .entry)) (now (s .entry)) (item.Fetch g n)) ⌝ }
 {
     if !p.started {

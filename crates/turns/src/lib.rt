@@ -4,10 +4,10 @@ mod called;
 ghost use lib.ListN.{length};
 ghost use Rattle.playing.specs.Turns as turns;
 ghost use Rattle.playing.specs.Telling.{Tells};
-use fetch_lines::FETCH_ROOM;
 use items::Item;
 use playing::named;
 use playing::player::Player;
+use playing::player::RECORD_ROOM;
 use playing::player::Turned;
 use playing::results::idle;
 use printing::has_room;
@@ -17,7 +17,7 @@ use printing::has_room;
 pub fn turn(p: Player, t: &mut [u64], s: &[u8], out: &mut [u8], at: usize) -> Turned
     ensures { λ r. ⌜ Tells r (now (t .exit)) (now (out .entry)) (now (out .exit)) at (turns.turnIn (length (now (out .entry))) at p (now (t .entry)) (now (s .entry))) ⌝ }
 {
-    if !has_room(out.len(), at, FETCH_ROOM) {
+    if !has_room(out.len(), at, RECORD_ROOM) {
         return idle(p, false);
     }
     match items::front(s) {

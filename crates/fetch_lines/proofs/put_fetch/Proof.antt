@@ -9,7 +9,7 @@ use borrow.Author.Tests.{not-true, not-false, leb-true}
 use Rattle.printing.specs.Text.{newline, decimal}
 use Rattle.plain_lines.specs.Plain.{numberLine}
 use Rattle.fetch_lines.specs.Lines.{fetchRoom, fetchLines, fetchFits, recordLines}
-use Rattle.printing.specs.Placing.{lineRoom, written, writtenCount}
+use Rattle.printing.specs.Placing.{decimalRoom, lineRoom, written, writtenCount}
 use Rattle.printing.proofs.Places.{Put, put-then, placed-room, placed-next, put-named, put-whole, put-none, written-named, written-within, put-tested}
 use Rattle.fetch_lines.proofs.Wording.{fetchHead, fetch-given, fetch-refused, fits}
 use Rattle.fetch_lines.proofs.put_fetch.Statement.{statement}
@@ -75,7 +75,7 @@ given c =
     let room : a .at + fetchRoom ≤ length (a .out .now) = leb-true (a .at + fetchRoom) (length (a .out .now)) yes in
     let head : Put (a .at) fetchHead (a .out .now) (p .put-bytes .result) (p .put-bytes .last .0) = placed-room 4 (a .at) fetchHead (a .out .now) (omega (arith, room)) (p .put-bytes .ensures) in
     let first : Put (a .at) (fetchHead ++ count) (a .out .now) (d .put-decimal .result) (d .put-decimal .last .0) =
-    placed-next 21 (a .at) fetchHead count (a .out .now) (omega (arith, room)) head (d .put-decimal .ensures .0, d .put-decimal .ensures .1) in
+    placed-next decimalRoom (a .at) fetchHead count (a .out .now) (omega (arith, room)) head (d .put-decimal .ensures .0, d .put-decimal .ensures .1) in
     let named : lines ≡ (fetchHead ++ count) ++ recordLines n buffer =
     fetch-given (a .a) (sym (t .before .number-of .ensures) ∙ t .if3 .left) buffer ∙ ap (λ m. (fetchHead ++ (decimal m ++ (newline ∷ []))) ++ recordLines m buffer) (sym (k .count-of .ensures)) in
     put-tested (fetchFits (a .a) buffer) (writtenCount fetchRoom (a .at) lines (a .out .now)) (written fetchRoom (a .at) lines (a .out .now)) (a .out .now)

@@ -12,4 +12,4 @@ returns c = rw (number-text (c .before .args .a), c .number-of .ensures)
 
 pub number-line-spec : {M : Type 1} → statement M
 number-line-spec =
-    tie.close (tie.spec (λ c κs. search needs) (λ c. record { fits = omega (arith, small (c .before .args .a) .0) }) returns)
+    tie.close (tie.spec (λ c κs. search needs) (λ c. record { fits = omega (arith, small (c .before .args .a)) }) returns)

@@ -5,7 +5,7 @@ use mathlib.Core.List.{List, [], _∷_, _++_}
 use native.Mathlib.Omega.{arith}
 use borrow.Author.Needs.{needs}
 use borrow.Author.Tests.{not-true, not-false}
-use Rattle.printing.specs.Placing.{lineRoom}
+use Rattle.printing.specs.Placing.{decimalRoom, lineRoom}
 use Rattle.printing.specs.Text.{newline, decimal}
 use Rattle.plain_lines.specs.Plain.{badLine}
 use Rattle.printing.proofs.Places.{put-pieces, put-none}
@@ -30,7 +30,7 @@ whole c =
     let t = p .before .before .before in
     let r = t .before .has-room in
     let a = t .before .before .before .args in
-    put-pieces lineRoom 15 21 (a .at) (badLine (a .offset)) badHead (decimal (a .offset) ++ (newline ∷ [])) (a .out .now) (sym (r .ensures) ∙ not-false (r .result) (t .if1 .left)) (omega arith) (omega arith) refl
+    put-pieces lineRoom 15 decimalRoom (a .at) (badLine (a .offset)) badHead (decimal (a .offset) ++ (newline ∷ [])) (a .out .now) (sym (r .ensures) ∙ not-false (r .result) (t .if1 .left)) (omega arith) (omega arith) refl
     (p .put-bytes .ensures)
     (q .put-decimal .ensures .0, q .put-decimal .ensures .1)
 

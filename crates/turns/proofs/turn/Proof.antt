@@ -7,11 +7,10 @@ use lib.Dec.{leb}
 use lib.ListN.{length}
 use borrow.Author.Needs.{needs}
 use borrow.Author.Tests.{leb-true, not-true, not-false}
-use Rattle.fetch_lines.specs.Lines.{fetchRoom}
 use Rattle.items.specs.declared.Item.{Item}
 use Rattle.items.specs.Items.{front}
 use Rattle.playing.specs.declared.player.Turned.{Turned}
-use Rattle.playing.specs.Turns.{turnOf, turnIn}
+use Rattle.playing.specs.Turns.{recordRoom, turnOf, turnIn}
 use Rattle.playing.specs.Telling.{Tells}
 use Rattle.playing.proofs.Telling.{tells-silent, tells-turn, tells-full}
 use Rattle.turns.proofs.Reading.{works, front-fits, asks-few}
@@ -30,10 +29,10 @@ module _ (f : tie.After-front) where
   start = f .before .before .before .before .before .before
 
   -- there is room for its lines
-  tested : leb (start .args .at + fetchRoom) (length (start .args .out .now)) ≡ true
+  tested : leb (start .args .at + recordRoom) (length (start .args .out .now)) ≡ true
   tested = sym (f .before .before .has-room .ensures) ∙ not-false _ (f .before .if1 .left)
 
-  room : start .args .at + fetchRoom ≤ length (start .args .out .now)
+  room : start .args .at + recordRoom ≤ length (start .args .out .now)
   room = leb-true _ _ tested
 
   module _ {i : Item} (e : f .front .result ≡ i) where

@@ -46,15 +46,15 @@ told y =
     told-in-room (y .turn .result) (l .loop .player) (l .loop .t) (drop (l .loop .read) s) (y .turn .last .1 .0) (l .loop .out) (y .turn .last .1 .1 .1 .0) (l .loop .printed) (omega (arith, w .same, w .fits))
     (rw (take-all (length s - l .loop .read) (drop (l .loop .read) s) (omega (arith, length-drop (l .loop .read) s))) at (y .turn .ensures))
 
-advanced-requires : tie.Need-advanced-requires Inv-loop μ-loop
-advanced-requires c κs =
+past-requires : tie.Need-past-requires Inv-loop μ-loop
+past-requires c κs =
     let y = c .before .before .before .before .before in
     let l = y .before .before .before .before .before in
     let s = l .before .before .before .before .args .s .now in
     omega (arith, told y .read, turn-reads (l .loop .player) (l .loop .t) (drop (l .loop .read) s), length-drop (l .loop .read) s, l .loop .inv .0 .within)
 
-advanced-requires-2 : tie.Need-advanced-requires-2 Inv-loop μ-loop
-advanced-requires-2 c κs =
+past-requires-2 : tie.Need-past-requires-2 Inv-loop μ-loop
+past-requires-2 c κs =
     let y = c .before .before .before .before .before .before in
     let l = y .before .before .before .before .before in
     let a = l .before .before .before .before .args in
@@ -83,7 +83,7 @@ returns c =
     let a = l .before .before .before .before .args in
     let w = l .loop .inv .0 in
     let e : length (y .turn .last .1 .1 .1 .0) ≡ length (l .loop .out) = search needs in
-    rw (c .before .before .before .advanced .ensures, c .before .before .advanced2 .ensures)
+    rw (c .before .before .before .past .ensures, c .before .before .past2 .ensures)
     (stops (a .p) (a .t .now) (a .s .now) (a .out .now) (l .loop .player) (l .loop .t) (l .loop .out) (l .loop .read) (l .loop .printed) w (omega (arith, w .same)) (y .turn .result) (y .turn .last .1 .0) (y .turn .last .1 .1 .1 .0) (told y) (e ∙ w .same) (omega arith))
 
 loop-less : tie.Need-loop-less Inv-loop μ-loop
@@ -93,7 +93,7 @@ loop-less c =
     let s = l .before .before .before .before .args .s .now in
     omega (
       arith,
-      c .before .before .before .advanced .ensures,
+      c .before .before .before .past .ensures,
       told y .read,
       turn-reads (l .loop .player) (l .loop .t) (drop (l .loop .read) s),
       length-drop (l .loop .read) s,
@@ -109,7 +109,7 @@ loop-again c =
     let e : length (y .turn .last .1 .1 .1 .0) ≡ length (l .loop .out) = search needs in
     let f : length (y .turn .last .1 .0) ≡ length (l .loop .t) = search needs in
     let x = turn-reads (l .loop .player) (l .loop .t) (drop (l .loop .read) (a .s .now)) in (
-      rw (c .before .before .before .advanced .ensures, c .before .before .advanced2 .ensures)
+      rw (c .before .before .before .past .ensures, c .before .before .past2 .ensures)
           (goes-on (a .p) (a .t .now) (a .s .now) (a .out .now) (l .loop .player) (l .loop .t) (l .loop .out) (l .loop .read) (l .loop .printed) w (omega (arith, w .same)) (y .turn .result) (y .turn .last .1 .0) (y .turn .last .1 .1 .1 .0) (told y) (e ∙ w .same) (omega arith) (omega (arith, told y .read, x, length-drop (l .loop .read) (a .s .now), w .within))),
       f ∙ l .loop .inv .1,
     )
@@ -139,8 +139,8 @@ play-spec =
     part-turn-start
     part-turn-end
     (λ c κs. tt)
-    advanced-requires
-    advanced-requires-2
+    past-requires
+    past-requires-2
     same-length
     same-length-2
     returns

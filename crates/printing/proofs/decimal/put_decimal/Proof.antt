@@ -7,7 +7,8 @@ use borrow.Author.Needs.{needs}
 use borrow.Author.Tests.{not-true, not-false, leb-true}
 use lib.ListN.{length, take, drop, length-drop}
 use lib.Seq.{take-all}
-use Rattle.printing.specs.Text.{newline, decimal}
+use Rattle.printing.specs.Text.{decimal}
+use Rattle.printing.specs.Placing.{decimalRoom}
 use Rattle.printing.proofs.Places.{Put, placed-room, room-placed, none-placed}
 use Rattle.printing.proofs.decimal.put_decimal.Statement.{statement}
 use Rattle.printing.proofs.decimal.put_decimal.Tie as tie
@@ -16,7 +17,7 @@ none : tie.Need-returns
 none c =
     let r = c .before .has-room in
     let a = c .before .before .before .args in
-    let p = none-placed 21 (a .at) (decimal (a .x) ++ (newline ∷ [])) (a .out .now) (sym (r .ensures) ∙ not-true (r .result) (c .if1 .taken)) in
+    let p = none-placed decimalRoom (a .at) (decimal (a .x) ++ (a .end ∷ [])) (a .out .now) (sym (r .ensures) ∙ not-true (r .result) (c .if1 .taken)) in
     (p .0, p .1, omega arith)
 
 whole : tie.Need-returns-2
@@ -26,16 +27,16 @@ whole c =
     let t = d .before in
     let a = t .before .before .before .args in
     let r = t .before .has-room in
-    let bytes = d .decimal-line .result .bytes in
-    let from = d .decimal-line .result .from in
-    let text = decimal (a .x) ++ (newline ∷ []) in
-    let e : take (21 - from) (drop from bytes) ≡ text = take-all (21 - from) (drop from bytes) (simp length-drop (omega arith)) ∙ d .decimal-line .ensures .2 in
-    let l : length text ≤ 21 = omega (arith, length-drop from bytes, ap length (d .decimal-line .ensures .2)) in
+    let bytes = d .decimal-text .result .bytes in
+    let from = d .decimal-text .result .from in
+    let text = decimal (a .x) ++ (a .end ∷ []) in
+    let e : take (decimalRoom - from) (drop from bytes) ≡ text = take-all (decimalRoom - from) (drop from bytes) (simp length-drop (omega arith)) ∙ d .decimal-text .ensures .2 in
+    let l : length text ≤ decimalRoom = omega (arith, length-drop from bytes, ap length (d .decimal-text .ensures .2)) in
     let yes = sym (r .ensures) ∙ not-false (r .result) (t .if1 .left) in
-    let room : a .at + 21 ≤ length (a .out .now) = leb-true (a .at + 21) (length (a .out .now)) yes in
+    let room : a .at + decimalRoom ≤ length (a .out .now) = leb-true (a .at + decimalRoom) (length (a .out .now)) yes in
     let q : Put (a .at) text (a .out .now) (p .result) (p .last .0) =
     placed-room (length text) (a .at) text (a .out .now) (omega (arith, l, room)) (rw e at (p .ensures)) in
-    let w = room-placed 21 (a .at) text (a .out .now) yes q in
+    let w = room-placed decimalRoom (a .at) text (a .out .now) yes q in
     (w .0, w .1, omega (arith, q .0, l))
 
 pub put-decimal-spec : {M : Type 1} → statement M

@@ -1,21 +1,21 @@
--- The loop's invariant: the digits of x and the newline are those of n, and then the bytes after place i.
+-- The loop's invariant: the digits of x and the byte that ends them are those of n, and then the bytes after place i.
 use Prim.Native.Nat.{_+_, _-_, _^_, _<_}
 use mathlib.Core.Path.{_≡_, refl, _∙_}
 use mathlib.Core.List.{[], _∷_, _++_, append-assoc}
 use native.Mathlib.Omega.{arith}
 use borrow.Author.Needs.{needs}
 use lib.ListN.{length, drop, length-set}
-use Rattle.printing.specs.Text.{newline, decimal}
+use Rattle.printing.specs.Text.{decimal}
 use Rattle.printing.proofs.Numbers.{decimal-one, decimal-more, tenth}
 use Rattle.printing.proofs.Places.{drop-set}
-use Rattle.printing.proofs.decimal.decimal_line.Statement.{statement}
-use Rattle.printing.proofs.decimal.decimal_line.Tie as tie
+use Rattle.printing.proofs.decimal.decimal_text.Statement.{statement}
+use Rattle.printing.proofs.decimal.decimal_text.Tie as tie
 
 abbrev Inv-loop : tie.InvT-loop
-Inv-loop x bytes₀ n₀ i₀ bytes n i = (i < 20) × (length bytes ≡ 21) × (n < 10 ^ (i + 1)) × (decimal x ++ (newline ∷ []) ≡ decimal n ++ drop (i + 1) bytes)
+Inv-loop x end bytes₀ n₀ i₀ bytes n i = (i < 20) × (length bytes ≡ 21) × (n < 10 ^ (i + 1)) × (decimal x ++ (end ∷ []) ≡ decimal n ++ drop (i + 1) bytes)
 
 abbrev μ-loop : tie.MeasureT-loop
-μ-loop x bytes₀ n₀ i₀ bytes n i = n
+μ-loop x end bytes₀ n₀ i₀ bytes n i = n
 
 sub-i : tie.Need-sub-i Inv-loop μ-loop
 sub-i c = let s = c .before .before .loop in omega (arith, tenth (s .n) (s .i) (omega arith) (s .inv .2) .0)
@@ -39,8 +39,8 @@ returns c =
       rw (drop-set (s .bytes) (s .i) (c .digit2 .result) (omega arith), c .digit2 .ensures, s .inv .3, decimal-one (s .n) (omega arith)),
     )
 
-pub decimal-line-spec : {M : Type 1} → statement M
-decimal-line-spec =
+pub decimal-text-spec : {M : Type 1} → statement M
+decimal-text-spec =
     tie.close
     (tie.spec
     Inv-loop

@@ -1,0 +1,4 @@
+pub mod Keeping
+pub mod Leaving
+pub mod Outcomes
+pub mod Writing
