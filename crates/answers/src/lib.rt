@@ -55,3 +55,31 @@ pub fn values_of(a: Answer) -> Values
         Answer::Blocked(c) => with(cause_number(c), 0, 0, 0),
     }
 }
+
+// The number that a call gives back.
+pub fn number_of(a: Answer) -> u8
+    ensures { λ r. ⌜ r ≡ answers.number a ⌝ }
+{
+    values_of(a).number
+}
+
+// The bytes used of a request's writable part.
+pub fn used_of(a: Answer) -> usize
+    ensures { λ r. ⌜ r ≡ answers.usedLength a ⌝ }
+{
+    values_of(a).used
+}
+
+// The address that an access goes through to.
+pub fn address_of(a: Answer) -> u64
+    ensures { λ r. ⌜ r ≡ answers.addressOf a ⌝ }
+{
+    values_of(a).address
+}
+
+// The number of faults that a fetch gave.
+pub fn count_of(a: Answer) -> usize
+    ensures { λ r. ⌜ r ≡ answers.fetchedCount a ⌝ }
+{
+    values_of(a).count
+}

@@ -11,7 +11,7 @@ use Rattle.rules.specs.Sizes.{maxFaults}
 use Rattle.items.specs.declared.GuestFields.{GuestFields}
 use Rattle.items.specs.declared.StartFields.{StartFields}
 use Rattle.items.specs.declared.Item.{Item}
-use Rattle.items.specs.declared.Item.the-variants.{Cut, Wrong, NamedGuest, NamedEndpoint, Start, Request, Access, Reset, Fetch}
+use Rattle.items.specs.declared.Item.the-variants.{Cut, Wrong, NamedGuest, NamedEndpoint, Start, Request, AccessBy, Reset, Fetch}
 
 -- the kinds
 abbrev pub GUEST : ℕ
@@ -94,7 +94,7 @@ itemOf s =
     cond (eqb (kindOf s) GUEST) (NamedGuest (guestFields s))
     (cond (eqb (kindOf s) ENDPOINT) (NamedEndpoint (endpointAt 1 s) (guestAt 5 s))
     (cond (eqb (kindOf s) START) (Start (startFields s))
-    (cond (eqb (kindOf s) ACCESS) (cond (leb (getD s 13 0) 1) (Access (endpointAt 1 s) (leField 5 8 s) (getD s 13 0)) Wrong)
+    (cond (eqb (kindOf s) ACCESS) (cond (leb (getD s 13 0) 1) (AccessBy (record { endpoint = endpointAt 1 s; address = leField 5 8 s; kind = getD s 13 0 })) Wrong)
     (cond (eqb (kindOf s) RESET) (Reset (guestAt 1 s))
     (cond (eqb (kindOf s) FETCH) (cond (leb (getD s 2 0) maxFaults) (Fetch (guestAt 1 s) (getD s 2 0)) Wrong)
     (Request (guestAt 1 s)))))))

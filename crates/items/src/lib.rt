@@ -4,6 +4,7 @@ ghost use Prim.Native.Nat.{_<_, _≤_};
 ghost use lib.ListN.{length};
 ghost use Rattle.items.specs.Items.{longestBody, bodyLength, kindOf, sizeOf, guestFields, startFields, endpointAt, itemOf};
 ghost use Rattle.items.specs.Items as items;
+use rules::Access;
 use rules::DomainRange;
 use rules::Endpoint;
 use rules::Guest;
@@ -35,7 +36,7 @@ pub enum Item {
     NamedEndpoint(Endpoint, Guest),
     Start(StartFields),
     Request(Guest),
-    Access(Endpoint, u64, u8),
+    AccessBy(Access),
     Reset(Guest),
     Fetch(Guest, usize),
 }
@@ -117,7 +118,14 @@ fn access_item(s: &[u8]) -> Item
     if 1 < s[13] {
         return Item::Wrong;
     }
-    Item::Access(endpoint_field(s), field_at(s, 5, 8), s[13])
+    let endpoint = endpoint_field(s);
+    let address = field_at(s, 5, 8);
+    let kind = s[13];
+    Item::AccessBy(Access {
+        endpoint,
+        address,
+        kind,
+    })
 }
 
 // The most faults that a fetch may ask for.

@@ -12,7 +12,7 @@ use Rattle.laws.specs.Bytes.{leNumber, leField}
 use Rattle.laws.proofs.Tests.{either-way, true-false}
 use Rattle.rules.specs.Sizes.{maxFaults}
 use Rattle.items.specs.declared.Item.{Item}
-use Rattle.items.specs.declared.Item.the-variants.{Cut, Wrong, NamedGuest, NamedEndpoint, Start, Request, Access, Reset, Fetch}
+use Rattle.items.specs.declared.Item.the-variants.{Cut, Wrong, NamedGuest, NamedEndpoint, Start, Request, AccessBy, Reset, Fetch}
 use Rattle.playing.specs.declared.player.Player.{Player}
 use Rattle.items.specs.Items.{GUEST, ENDPOINT, START, ACCESS, RESET, FETCH, bodyLength, kindOf, sizeOf, requestBytes, itemOf, front, Fits}
 use Rattle.playing.specs.Turns.{turnOf, turn}
@@ -31,7 +31,7 @@ isCut (NamedGuest f) = false
 isCut (NamedEndpoint e g) = false
 isCut (Start f) = false
 isCut (Request g) = false
-isCut (Access e a k) = false
+isCut (AccessBy x) = false
 isCut (Reset g) = false
 isCut (Fetch g n) = false
 
@@ -116,7 +116,7 @@ module _ (s rest : List ℕ) where
     item-more (NamedEndpoint e g) f = rw (size-more (f refl .0))
     item-more (Start x) f = rw (size-more (f refl .0))
     item-more (Request g) f = rw (request-more (f refl), size-more (f refl .0))
-    item-more (Access e a k) f = rw (size-more (f refl .0))
+    item-more (AccessBy x) f = rw (size-more (f refl .0))
     item-more (Reset g) f = rw (size-more (f refl .0))
     item-more (Fetch g n) f = rw (size-more (f refl .0))
 

@@ -13,7 +13,7 @@ use Rattle.laws.proofs.Tests.{either-way, true-false}
 use Rattle.rules.specs.Sizes.{maxGuests, maxEndpoints}
 use Rattle.plain_lines.specs.Plain.{badLine, endLine}
 use Rattle.items.specs.declared.Item.{Item}
-use Rattle.items.specs.declared.Item.the-variants.{Cut, Wrong, NamedGuest, NamedEndpoint, Start, Request, Access, Reset, Fetch}
+use Rattle.items.specs.declared.Item.the-variants.{Cut, Wrong, NamedGuest, NamedEndpoint, Start, Request, AccessBy, Reset, Fetch}
 use Rattle.playing.specs.declared.player.Player.{Player}
 use Rattle.items.specs.Items.{sizeOf, front}
 use Rattle.playing.specs.Turns.{recordRoom, Turn, idle, allowed, guestTurn, endpointTurn, startTurn, requestTurn, accessTurn, resetTurn, fetchTurn, turnOf, turn}
@@ -42,7 +42,7 @@ module _ (p : Player) (t s : List ℕ) where
   idles (NamedEndpoint e g) h = may-idle (not (p .started) && ltb (p .state .listed) maxEndpoints) (NamedEndpoint e g) (endpointTurn p t s e g) refl refl h
   idles (Start x) h = may-idle (not (p .started)) (Start x) (startTurn p t s x) refl refl h
   idles (Request g) h = may-idle (p .started) (Request g) (requestTurn p t s g) refl refl h
-  idles (Access e a k) h = may-idle (p .started) (Access e a k) (accessTurn p t s e a k) refl refl h
+  idles (AccessBy x) h = may-idle (p .started) (AccessBy x) (accessTurn p t s x) refl refl h
   idles (Reset g) h = may-idle (p .started) (Reset g) (resetTurn p t s g) refl refl h
   idles (Fetch g n) h = may-idle (p .started) (Fetch g n) (fetchTurn p t s g n) refl refl h
 
@@ -59,7 +59,7 @@ cut-item p t s (NamedGuest f) h = true-false false h refl
 cut-item p t s (NamedEndpoint e g) h = true-false false h refl
 cut-item p t s (Start f) h = true-false false h refl
 cut-item p t s (Request g) h = true-false false h refl
-cut-item p t s (Access e a k) h = true-false false h refl
+cut-item p t s (AccessBy x) h = true-false false h refl
 cut-item p t s (Reset g) h = true-false false h refl
 cut-item p t s (Fetch g n) h = true-false false h refl
 

@@ -4,12 +4,13 @@ use mathlib.Core.Bool.{Bool, true, false, cond, not, _&&_}
 use mathlib.Core.List.{List, []}
 use lib.Dec.{leb, ltb}
 use lib.ListN.{replicate}
-use Rattle.rules.specs.Sizes.{maxGuests, maxEndpoints, faultSize}
+use Rattle.rules.specs.Sizes.{maxGuests, maxEndpoints, faultSize, statusSize}
 use Rattle.rules.specs.declared.Guest.{Guest}
 use Rattle.rules.specs.declared.Endpoint.{Endpoint}
+use Rattle.rules.specs.declared.Access.{Access}
 use Rattle.rules.specs.declared.State.{State}
 use Rattle.rules.specs.State.{Device, configOf, zeroState}
-use Rattle.rules.specs.Device.{Reply, SetUp, step, setUp, request, access-by, reset-of, fetch-for}
+use Rattle.rules.specs.Device.{Reply, SetUp, step, setUp, request, reset, fetch, of-guest, access-by}
 use Rattle.state.specs.Fields.{withSettings}
 use Rattle.plain_lines.specs.Plain.{letterS, letterZ, numberLine}
 use Rattle.lines.specs.Lines.{requestLine, accessLine}
@@ -17,7 +18,7 @@ use Rattle.fetch_lines.specs.Lines.{fetchRoom, fetchLines}
 use Rattle.items.specs.declared.GuestFields.{GuestFields}
 use Rattle.items.specs.declared.StartFields.{StartFields}
 use Rattle.items.specs.declared.Item.{Item}
-use Rattle.items.specs.declared.Item.the-variants.{Cut, Wrong, NamedGuest, NamedEndpoint, Start, Request, Access, Reset, Fetch}
+use Rattle.items.specs.declared.Item.the-variants.{Cut, Wrong, NamedGuest, NamedEndpoint, Start, Request, AccessBy, Reset, Fetch}
 use Rattle.playing.specs.declared.player.Player.{Player}
 use Rattle.items.specs.Items.{front, sizeOf, requestBytes}
 use Rattle.playing.specs.Naming.{guestNamed, endpointNamed, rangesNamed}
@@ -83,22 +84,22 @@ startTurn p t s f = startedTurn s (setUp (configOf (withSettings (rangesNamed f 
 -- "0x11, 0x12, 0x13": a request; its writable part has four bytes
 abbrev pub requestTurn : Player → List ℕ → List ℕ → Guest → Turn
 requestTurn p t s g =
-    callTurn s (λ r. requestLine (r .answer) (r .buffer)) (step (playerDevice p t) (request g (requestBytes s) (replicate 4 0)))
+    callTurn s (λ r. requestLine (r .answer) (r .buffer)) (step (playerDevice p t) (of-guest g (request (requestBytes s) (replicate statusSize 0))))
 
 -- "0x21": an access
-abbrev pub accessTurn : Player → List ℕ → List ℕ → Endpoint → ℕ → ℕ → Turn
-accessTurn p t s e a k = callTurn s (λ r. accessLine (r .answer)) (step (playerDevice p t) (access-by e a k))
+abbrev pub accessTurn : Player → List ℕ → List ℕ → Access → Turn
+accessTurn p t s x = callTurn s (λ r. accessLine (r .answer)) (step (playerDevice p t) (access-by x))
 
 -- "0x22 reset"
 abbrev pub resetTurn : Player → List ℕ → List ℕ → Guest → Turn
-resetTurn p t s g = callTurn s (λ r. numberLine letterZ (r .answer)) (step (playerDevice p t) (reset-of g))
+resetTurn p t s g = callTurn s (λ r. numberLine letterZ (r .answer)) (step (playerDevice p t) (of-guest g reset))
 
 -- "0x23 fetch"; its buffer has room for the records asked
 abbrev pub fetchedTurn : List ℕ → Reply × Device → Turn
 fetchedTurn s r = callTurn s (λ x. fetchLines (x .answer) (x .buffer)) r
 
 abbrev pub fetchTurn : Player → List ℕ → List ℕ → Guest → ℕ → Turn
-fetchTurn p t s g n = fetchedTurn s (step (playerDevice p t) (fetch-for g (replicate (faultSize * n) 0)))
+fetchTurn p t s g n = fetchedTurn s (step (playerDevice p t) (of-guest g (fetch (replicate (faultSize * n) 0))))
 
 -- "a fifth guest, a 33rd endpoint, 0x01 or 0x02 after start, a second start, a call before start": each is bad
 unfoldable pub turnOf : Player → List ℕ → List ℕ → Item → Turn
@@ -108,7 +109,7 @@ turnOf p t s (NamedGuest f) = allowed (not (p .started) && ltb (p .state .settin
 turnOf p t s (NamedEndpoint e g) = allowed (not (p .started) && ltb (p .state .listed) maxEndpoints) p t (endpointTurn p t s e g)
 turnOf p t s (Start f) = allowed (not (p .started)) p t (startTurn p t s f)
 turnOf p t s (Request g) = allowed (p .started) p t (requestTurn p t s g)
-turnOf p t s (Access e a k) = allowed (p .started) p t (accessTurn p t s e a k)
+turnOf p t s (AccessBy x) = allowed (p .started) p t (accessTurn p t s x)
 turnOf p t s (Reset g) = allowed (p .started) p t (resetTurn p t s g)
 turnOf p t s (Fetch g n) = allowed (p .started) p t (fetchTurn p t s g n)
 

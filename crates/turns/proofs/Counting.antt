@@ -15,23 +15,23 @@ use Rattle.rules.specs.Sound.{sound}
 use Rattle.effects.specs.declared.Given.{Given}
 use Rattle.effects.specs.Replied.{replied}
 use Rattle.fetch_lines.specs.Lines.{fetchFits}
-use Rattle.rules.specs.Device.{Reply, step, worked, work, rule, caller, numbered, fetch-for}
+use Rattle.rules.specs.Device.{Reply, step, performed, work, rule, jobRule, caller, numbered, fetch, of-guest}
 
 module _ (d : Device) (g : Guest) (b : List ℕ) where
   abbrev Few : Reply × Device → Type 0
   Few x = fetchedCount (x .0 .answer) ≤ length b / faultSize
 
   -- no more than fit whole into the buffer
-  pub fetches-few : Few (step d (fetch-for g b))
+  pub fetches-few : Few (step d (of-guest g (fetch b)))
   unfolding step
   fetches-few =
-      either-way Few (not (numbered (configOf (d .state)) (fetch-for g b))) (λ _. omega arith) (λ _.
-      either-way Few (not (sound d)) (λ _. omega arith) (λ _. unfold worked caller work rule in omega arith))
+      either-way Few (not (numbered (configOf (d .state)) (of-guest g (fetch b)))) (λ _. omega arith) (λ _.
+      either-way Few (not (sound d)) (λ _. omega arith) (λ _. unfold performed caller work rule jobRule in omega arith))
 
   -- so its lines fit, where the buffer holds no more records than a fetch may ask for
   pub fetch-fits :
       (given : Given) (buffer table : List ℕ)
-      → replied given buffer table ≡ step d (fetch-for g b)
+      → replied given buffer table ≡ step d (of-guest g (fetch b))
       → length buffer ≡ length b
       → length b ≤ faultSize * maxFaults
       → fetchFits (given .answer) buffer ≡ true

@@ -10,7 +10,7 @@ use borrow.Author.Tests.{eqb-false, ltb-false, leb-true}
 use Rattle.laws.proofs.Tests.{either-way, true-false}
 use Rattle.rules.specs.Sizes.{maxGuests, maxEndpoints, maxFaults}
 use Rattle.items.specs.declared.Item.{Item}
-use Rattle.items.specs.declared.Item.the-variants.{Cut, Wrong, NamedGuest, NamedEndpoint, Start, Request, Access, Reset, Fetch}
+use Rattle.items.specs.declared.Item.the-variants.{Cut, Wrong, NamedGuest, NamedEndpoint, Start, Request, AccessBy, Reset, Fetch}
 use Rattle.playing.specs.declared.player.Player.{Player}
 use Rattle.items.specs.Items.{GUEST, ENDPOINT, START, ACCESS, RESET, FETCH, bodyLength, kindOf, sizeOf, itemOf, front, Fits}
 use Rattle.playing.specs.Turns.{Turn, idle, allowed, guestTurn, endpointTurn, startTurn, requestTurn, accessTurn, resetTurn, fetchTurn, turnOf, turn}
@@ -23,7 +23,7 @@ works (NamedGuest f) = true
 works (NamedEndpoint e g) = true
 works (Start f) = true
 works (Request g) = true
-works (Access e a k) = true
+works (AccessBy x) = true
 works (Reset g) = true
 works (Fetch g n) = true
 
@@ -53,7 +53,7 @@ module _ (p : Player) (t s : List ℕ) where
   reads-well (NamedEndpoint e g) f = may-read (not (p .started) && ltb (p .state .listed) maxEndpoints) (endpointTurn p t s e g) refl (f refl)
   reads-well (Start x) f = may-read (not (p .started)) (startTurn p t s x) refl (f refl)
   reads-well (Request g) f = may-read (p .started) (requestTurn p t s g) refl (f refl)
-  reads-well (Access e a k) f = may-read (p .started) (accessTurn p t s e a k) refl (f refl)
+  reads-well (AccessBy x) f = may-read (p .started) (accessTurn p t s x) refl (f refl)
   reads-well (Reset g) f = may-read (p .started) (resetTurn p t s g) refl (f refl)
   reads-well (Fetch g n) f = may-read (p .started) (fetchTurn p t s g n) refl (f refl)
 
@@ -70,7 +70,7 @@ Most (NamedGuest f) = Unit {0}
 Most (NamedEndpoint e g) = Unit {0}
 Most (Start f) = Unit {0}
 Most (Request g) = Unit {0}
-Most (Access e a k) = Unit {0}
+Most (AccessBy x) = Unit {0}
 Most (Reset g) = Unit {0}
 Most (Fetch g n) = n ≤ maxFaults
 

@@ -6,7 +6,7 @@ ghost use lib.ListN.{length};
 ghost use Rattle.items.specs.declared.Item.the-variants as item;
 ghost use Rattle.items.specs.Items.{Fits, sizeOf};
 ghost use Rattle.rules.specs.Sizes.{maxFaults, faultSize};
-ghost use Rattle.rules.specs.Device.{step, fetch-for};
+ghost use Rattle.rules.specs.Device as rules;
 ghost use Rattle.effects.specs.Flat.{device};
 ghost use Rattle.playing.specs.Turns.{recordRoom, running, turnOf, fetchedTurn};
 ghost use Rattle.playing.specs.Telling.{turned, Tells};
@@ -20,7 +20,7 @@ use playing::player::Player;
 use playing::player::Turned;
 use playing::results::consumed;
 use playing::results::idle;
-use rules::Endpoint;
+use rules::Access;
 use rules::Guest;
 use rules::State;
 use rules::sizes::FAULT_SIZE;
@@ -87,19 +87,17 @@ pub(crate) fn access(
     p: Player,
     t: &[u64],
     s: &[u8],
-    e: Endpoint,
-    address: u64,
-    kind: u8,
+    a: Access,
     out: &mut [u8],
     at: usize,
 ) -> Turned
     requires { ⌜ at + recordRoom ≤ length (now out) ⌝ }
-    ensures { λ r. ⌜ Tells r (now (t .entry)) (now (out .entry)) (now (out .exit)) at (turnOf p (now (t .entry)) (now (s .entry)) (item.Access e address kind)) ⌝ }
+    ensures { λ r. ⌜ Tells r (now (t .entry)) (now (out .entry)) (now (out .exit)) at (turnOf p (now (t .entry)) (now (s .entry)) (item.AccessBy a)) ⌝ }
 {
     if !p.started {
         return idle(p, true);
     }
-    let given = accesses::access(p.state, t, e, address, kind);
+    let given = accesses::access(p.state, t, a);
     let answer = given.answer;
     let k = put_access(out, at, answer);
     finished(given, s, k)
@@ -140,7 +138,7 @@ fn fetch_into(
     at: usize,
 ) -> Turned
     requires { ⌜ (length (now buffer) ≤ faultSize * maxFaults) × (at + recordRoom ≤ length (now out)) ⌝ }
-    ensures { λ r. ⌜ Tells r (now (t .entry)) (now (out .entry)) (now (out .exit)) at (fetchedTurn (now (s .entry)) (step (device state (now (t .entry))) (fetch-for g (now (buffer .entry))))) ⌝ }
+    ensures { λ r. ⌜ Tells r (now (t .entry)) (now (out .entry)) (now (out .exit)) at (fetchedTurn (now (s .entry)) (rules.step (device state (now (t .entry))) (rules.of-guest g (rules.fetch (now (buffer .entry))))) ⌝ }
 {
     let given = fetches::fetch(state, t, g, buffer);
     let answer = given.answer;

@@ -27,7 +27,7 @@ pub fn turn(p: Player, t: &mut [u64], s: &[u8], out: &mut [u8], at: usize) -> Tu
         Item::NamedEndpoint(e, g) => named::endpoint(p, s, e, g),
         Item::Start(f) => called::start(p, t, s, f, out, at),
         Item::Request(g) => called::request(p, t, s, g, out, at),
-        Item::Access(e, address, kind) => called::access(p, t, s, e, address, kind, out, at),
+        Item::AccessBy(a) => called::access(p, t, s, a, out, at),
         Item::Reset(g) => called::reset(p, t, s, g, out, at),
         Item::Fetch(g, n) => called::fetch(p, t, s, g, n, out, at),
     }

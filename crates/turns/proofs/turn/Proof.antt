@@ -82,7 +82,7 @@ turn-spec =
     (λ c. search needs) (λ c. search needs)
     (λ c. let i = c .before .before .before .before .before .before .before .before in told (i .before .before) (i .g .given .1) (c .before .before .before .before .request .ensures))
     (λ c. search needs) (λ c. search needs)
-    (λ c. let i = c .before .before .before .before .before .before in told (i .before .before) (i .e2 .given .1) (c .before .before .access .ensures))
+    (λ c. let i = c .before .before .before .before .before .before in told (i .before .before) (i .a .given .1) (c .before .before .access .ensures))
     (λ c. search needs) (λ c. search needs)
     (λ c. let i = c .before .before .before .before .before .before .before .before in told (i .before .before) (i .g2 .given .1) (c .before .before .before .before .reset .ensures))
     (λ c. search needs) (λ c. search needs)
