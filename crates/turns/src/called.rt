@@ -138,7 +138,7 @@ fn fetch_into(
     at: usize,
 ) -> Turned
     requires { ⌜ (length (now buffer) ≤ faultSize * maxFaults) × (at + recordRoom ≤ length (now out)) ⌝ }
-    ensures { λ r. ⌜ Tells r (now (t .entry)) (now (out .entry)) (now (out .exit)) at (fetchedTurn (now (s .entry)) (rules.step (device state (now (t .entry))) (rules.of-guest g (rules.fetch (now (buffer .entry))))) ⌝ }
+    ensures { λ r. ⌜ Tells r (now (t .entry)) (now (out .entry)) (now (out .exit)) at (fetchedTurn (now (s .entry)) (rules.step (device state (now (t .entry))) (rules.of-guest g (rules.fetch (now (buffer .entry)))))) ⌝ }
 {
     let given = fetches::fetch(state, t, g, buffer);
     let answer = given.answer;
