@@ -8,13 +8,12 @@ use lib.Dec.{ltb, eqb}
 use lib.ListN.{length, drop, length-drop}
 use borrow.Author.Tests.{eqb-true, eqb-false, ltb-true}
 use Rattle.laws.proofs.Tests.{either-way, true-false}
-use Rattle.items.specs.declared.Item.{Item}
-use Rattle.items.specs.declared.Item.the-variants.{Cut, Wrong, NamedGuest, NamedEndpoint, Start, Request, AccessBy, Reset, Fetch}
+use Rattle.items.specs.declared.Item.the-variants.{AccessBy}
 use Rattle.items.specs.Items.{longestBody, bodyLength, kindOf, sizeOf, itemOf, front}
 use Rattle.items.proofs.Fields.{body-most}
 use Rattle.playing.specs.declared.player.Player.{Player}
 use Rattle.playing.specs.Turns.{recordRoom, Turn, idle, turn}
-use Rattle.journal.specs.Journal.{joined, playedFor, played}
+use Rattle.journal.specs.Journal.{playedFor, played}
 use Rattle.turns.proofs.Reading.{turn-reads}
 use Rattle.journal.proofs.Repeating.{play-step}
 use Rattle.journal.proofs.Longer.{isCut, whole-uncut}

@@ -10,11 +10,11 @@ use lib.ListN.{length, take}
 use borrow.Author.Tests.{le-leb, ne-eqb}
 use Rattle.printing.specs.Placing.{lineRoom}
 use Rattle.plain_lines.specs.Plain.{lastLine}
-use Rattle.playing.specs.Turns.{recordRoom, Turn, idle}
+use Rattle.playing.specs.Turns.{Turn, idle}
 use Rattle.journal.specs.Journal.{played}
 use Rattle.blocks.specs.Blocks.{kept}
 use Rattle.streaming.specs.declared.Progress.{Progress}
-use Rattle.streaming.specs.Advances.{Advance, heldWith, leaving, advance}
+use Rattle.streaming.specs.Advances.{heldWith, leaving, advance}
 use Rattle.streaming.proofs.Keeping.{kept-still}
 
 module _ (room : ℕ) (p : Progress) (t block s : List ℕ) (got h : ℕ) (all : heldWith p block got ≡ h) (same : take h block ≡ s) (fits : h ≤ length block) (small : p .offset + h < 2 ^ 64) where

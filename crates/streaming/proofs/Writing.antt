@@ -11,7 +11,7 @@ use lib.ListN.{length, take, drop, length-append, length-drop, take-append-drop}
 use lib.Seq.{length-take-le}
 use borrow.Author.Tests.{eqb-true, eqb-false, not-false, ne-eqb}
 use Rattle.laws.proofs.Tests.{true-false, both-left, both-right, or-cases, nor, and-not}
-use Rattle.printing.specs.Placing.{lineRoom, placed}
+use Rattle.printing.specs.Placing.{placed}
 use Rattle.plain_lines.specs.Plain.{lastLine}
 use Rattle.items.specs.Items.{longestBody, front}
 use Rattle.playing.specs.declared.player.Player.{Player}
