@@ -8,7 +8,6 @@ use lib.Dec.{ltb, eqb}
 use lib.ListN.{length, drop, length-drop}
 use borrow.Author.Tests.{eqb-true, eqb-false, ltb-true}
 use Rattle.laws.proofs.Tests.{either-way, true-false}
-use Rattle.items.specs.declared.Item.the-variants.{AccessBy}
 use Rattle.items.specs.Items.{longestBody, bodyLength, kindOf, sizeOf, itemOf, front}
 use Rattle.items.proofs.Fields.{body-most}
 use Rattle.playing.specs.declared.player.Player.{Player}
