@@ -83,14 +83,7 @@ pub(crate) fn request(
 }
 
 // An access.
-pub(crate) fn access(
-    p: Player,
-    t: &[u64],
-    s: &[u8],
-    a: Access,
-    out: &mut [u8],
-    at: usize,
-) -> Turned
+pub(crate) fn access(p: Player, t: &[u64], s: &[u8], a: Access, out: &mut [u8], at: usize) -> Turned
     requires { ⌜ at + recordRoom ≤ length (now out) ⌝ }
     ensures { λ r. ⌜ Tells r (now (t .entry)) (now (out .entry)) (now (out .exit)) at (turnOf p (now (t .entry)) (now (s .entry)) (item.AccessBy a)) ⌝ }
 {
