@@ -74,7 +74,7 @@ access o p a = decided o p a (attachmentOf (a .endpoint) (o .endpoints) (p .atta
 unfoldable pub afterReset : Part → Part
 afterReset p = record { attachments = replicate (length (p .attachments)) none; records = []; log = noLog }
 
--- "Fault record, 24 bytes: reason, three zeros, flags 4, endpoint 4, zero 4, address 8"
+-- "Fault record, 24 bytes: reason [..], three zeros, flags 4 [..], endpoint 4, zero 4, address 8."
 unfoldable pub faultBytes : Fault → List ℕ
 faultBytes f =
     f .reason ∷ 0 ∷ 0 ∷ 0 ∷ leBytes 4 (f .flags) ++ (leBytes 4 (f .endpoint .0) ++ (leBytes 4 0 ++ leBytes 8 (f .address)))

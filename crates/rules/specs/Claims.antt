@@ -1,4 +1,4 @@
--- What is claimed of the device over any list of calls. Each claim is a statement; the crate's proofs/Claims.antt proves it.
+-- What is claimed of the device over any list of calls. Each claim is a statement, and the crate's proofs prove it.
 use Prim.Native.Nat.{ℕ, _+_, _-_, _≤_, _<_}
 use mathlib.Core.Path.{_≡_}
 use mathlib.Core.Bool.{Bool, true, cond, not, _&&_, _||_}
@@ -34,8 +34,9 @@ holds c g d = part c g (read d)
 -- 1. GUESTS ARE KEPT APART
 
 -- Two lists of calls xs and ys from the device d. "Compared are, for each of that guest's own calls and accesses, all that it
--- gives back besides state and table and its buffers as it leaves them; and after the lists the guest's attachments, records
--- in table order, log and lost count. All equal what the rules give when that guest's own calls alone are worked in order."
+-- gives back besides state and table [..] and its buffers as it leaves them; and after the lists the guest's attachments,
+-- records in table order, log and lost count. All equal what the rules above give when that guest's own calls and accesses
+-- alone are worked in order from that set-up."
 pub record Apart (c : Config) (g : Guest) (d : Device) (xs ys : List Call) : Type 0 where
   -- the same replies in both
   pub replies : given step (owns c g) d xs ≡ given step (owns c g) d ys
@@ -48,8 +49,8 @@ pub record Apart (c : Config) (g : Guest) (d : Device) (xs ys : List Call) : Typ
   pub replies-alone : given step (owns c g) d xs ≡ given step every d (keep (owns c g) xs)
   pub held-alone : holds c g (after step d xs) ≡ holds c g (after step d (keep (owns c g) xs))
 
--- "Both start from the state and table as one set-up, answered 0, left them"; "that guest's own calls stand in the same order
--- in both, with the same bytes and buffers"
+-- "Both start from the state and table as one set-up, answered 0, left them." The guest's own calls are the same in both lists,
+-- in the same order, with the same bytes and buffers.
 abbrev pub GuestsApart : Type 0
 GuestsApart =
     (c : Config) (table : List ℕ) → setUp c table .answer ≡ Done
@@ -57,7 +58,7 @@ GuestsApart =
     → (xs ys : List Call) → keep (owns c g) xs ≡ keep (owns c g) ys
     → Apart c g (setUp c table .device) xs ys
 
--- 2. "NO ACCESS EVER LANDS OUTSIDE ITS OWNER'S WINDOW": "An access lands at the address given with 0."
+-- 2. NO ACCESS LANDS OUTSIDE ITS OWNER'S WINDOW: "An access lands at the address given with 0."
 
 abbrev pub WithinWindow : Config → Guest → Reply → Type 0
 WithinWindow c g a = number (a .answer) ≡ 0 → (windowFirst (c .settings) (g .0) ≤ addressOf (a .answer)) × (addressOf (a .answer) ≤ windowLast (c .settings) (g .0))

@@ -1,5 +1,6 @@
--- "Set-up takes a guest count (1 to 4); per guest a share and a memory window, first and last address; a page_size_mask;
--- an input range (64-bit); a domain range (32-bit); and two lent lists of equal length, endpoint numbers and owners."
+-- "Set-up takes a guest count (1 to 4); per guest a share (records it may hold) and a memory window, first and last address; a
+-- page_size_mask; an input range (64-bit); a domain range (32-bit); and two lent lists of equal length, endpoint numbers
+-- (32-bit) and owners, at most 32 entries."
 use Prim.Native.Nat.{ℕ, _^_}
 use mathlib.Core.Bool.{Bool, not, _&&_}
 use mathlib.Core.List.{List, [], _∷_}
@@ -69,6 +70,6 @@ goodSettings s = every? (settingsTests s)
 unfoldable pub goodLists : Settings → List ℕ → List ℕ → Bool
 goodLists s endpoints owners = every? (listTests s endpoints owners)
 
--- document 01's term "good configuration"
+-- document 01's term: "Configuration is good"
 unfoldable pub good : Config → Bool
 good c = goodSettings (c .settings) && goodLists (c .settings) (c .endpoints) (c .owners)

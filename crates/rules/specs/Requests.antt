@@ -39,7 +39,7 @@ FAULT = 7
 abbrev pub NOMEM : ℕ
 NOMEM = 8
 
--- "1 ATTACH, 2 DETACH, 3 MAP, 4 UNMAP"
+-- the types: "1 ATTACH", "2 DETACH", "3 MAP", "4 UNMAP"
 abbrev pub ATTACH : ℕ
 ATTACH = 1
 

@@ -39,7 +39,7 @@ abbrev pub words : List Mapping → List ℕ
 words [] = []
 words (r ∷ l) = r .key ∷ r .start ∷ r .end ∷ r .phys ∷ r .flags ∷ words l
 
--- "Live records stand first; all other words are zero."
+-- "Live records stand first, [..]; all other words are zero."
 unfoldable pub tableOf : List Mapping → List ℕ
 tableOf l = words l ++ replicate (tableWords - recordWords * length l) 0
 

@@ -18,7 +18,7 @@ use sound_places::places_good;
 use sound_records::records_good;
 use zeros::zero_from;
 
-// Whether there are n endpoints.
+// Whether the array has room for n endpoints.
 fn has_places(endpoints: &[u32], n: usize) -> bool
     ensures { λ r. ⌜ r ≡ eqb (length (take n (now (endpoints .entry)))) n ⌝ }
 {
