@@ -7,17 +7,16 @@ use mathlib.Core.Option.{Option, some, none}
 use native.Mathlib.Omega.{arith}
 use native.Mathlib.Nat.{min-le-left}
 use lib.Dec.{ltb, eqb}
-use lib.ListN.{length, getD, take, drop, length-take}
+use lib.ListN.{length, getD, take, drop}
 use lib.Seq.{getD-take, length-take-le}
 use borrow.Author.Tests.{ltb-true, eq-eqb}
-use Rattle.laws.specs.Lists.{find, tab}
+use Rattle.laws.specs.Lists.{tab}
 use Rattle.laws.proofs.Filters.{find-keep}
 use Rattle.laws.proofs.Tables.{length-tab, getD-tab, tab-is}
 use Rattle.laws.proofs.Tests.{both-left}
 use Rattle.rules.specs.declared.Guest.{Guest}
 use Rattle.rules.specs.declared.Endpoint.{Endpoint}
 use Rattle.rules.specs.declared.Domain.{Domain}
-use Rattle.rules.specs.declared.State.{State}
 use Rattle.rules.specs.declared.Mapping.{Mapping}
 use Rattle.rules.specs.declared.Fault.{Fault}
 use Rattle.rules.specs.declared.Answer.{Answer}
@@ -29,7 +28,7 @@ use Rattle.rules.specs.declared.Access.{Access}
 use Rattle.rules.specs.Sizes.{maxFaults, faultSize}
 use Rattle.rules.specs.Configuration.{Config}
 use Rattle.rules.specs.Table.{keyOf, guestOf}
-use Rattle.rules.specs.State.{Attachment, Log, World, Device, noFault, configOf, read, write, flagOf, numberOf, faultAt, logAt}
+use Rattle.rules.specs.State.{Attachment, Log, Device, noFault, configOf, read, write, flagOf, numberOf, faultAt, logAt}
 use Rattle.rules.specs.Guests.{Part, own, part, replace, withLog}
 use Rattle.rules.specs.Handlers.{attachmentOf, ofKey}
 use Rattle.rules.specs.Access.{permits, findMapping, faultOf, logged, fetchable, fetchedInto, fetchedFrom, bytesOf}

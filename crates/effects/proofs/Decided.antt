@@ -9,7 +9,7 @@ use native.Mathlib.Numerals.{add-one}
 use denote.Enum.Declared.{tagOf}
 use types.Run.{OneOf, miss}
 use lib.Dec.{leb}
-use lib.ListN.{length, getD, take, drop, length-append}
+use lib.ListN.{length, getD, drop, length-append}
 use lib.Seq.{take-at, drop-append-add, drop-drop}
 use borrow.Author.Tests.{eq-eqb, ne-eqb, lt-ltb, le-ltb}
 use borrow.Rule.Slice.PartMut.{midOf, putMid, post-is, mid-len}
@@ -17,7 +17,6 @@ use Rattle.laws.specs.Lists.{tabFrom, tab}
 use Rattle.laws.proofs.Filters.{found-passes}
 use Rattle.laws.proofs.Tables.{length-tab}
 use Rattle.rules.specs.declared.Guest.{Guest}
-use Rattle.rules.specs.declared.Endpoint.{Endpoint}
 use Rattle.rules.specs.declared.State.{State}
 use Rattle.rules.specs.declared.Mapping.{Mapping}
 use Rattle.rules.specs.declared.Fault.{Fault}
@@ -37,7 +36,6 @@ use Rattle.lookups.specs.declared.Found.the-variants.{At, Nothing}
 use Rattle.lookups.specs.Outcomes.{foundOf}
 use Rattle.lookups.proofs.Outcomes.{found-at, found-nothing}
 use Rattle.logging.specs.Changes.{faultLogged}
-use Rattle.attachments.specs.Search.{indexOf}
 use Rattle.fault_records.proofs.Laws.{length-fault, fault-whole}
 use Rattle.effects.specs.Flat.{placeOfEndpoint, answerOf, decisionAt, afterAccess, fetchBytes, ownerAt}
 

@@ -1,5 +1,5 @@
 -- What each entry shows at its returns.
-use Prim.Native.Nat.{ℕ, suc, _+_, _-_, _*_, _/_, _≤_, _<_, min}
+use Prim.Native.Nat.{ℕ, _+_, _-_, _*_, _/_, _≤_, _<_}
 use mathlib.Core.Path.{_≡_, refl, sym, ap, subst, _∙_}
 use mathlib.Core.Bool.{Bool, true, false, cond, not, _&&_}
 use mathlib.Core.List.{List, [], _∷_}
@@ -15,7 +15,6 @@ use Rattle.laws.specs.Lists.{all?, firstFailing}
 use Rattle.laws.proofs.Tests.{both-left, both-right, Clear, cleared}
 use Rattle.laws.proofs.Filters.{all-imp, found}
 use Rattle.rules.specs.declared.Guest.{Guest}
-use Rattle.rules.specs.declared.Endpoint.{Endpoint}
 use Rattle.rules.specs.declared.State.{State}
 use Rattle.rules.specs.declared.Mapping.{Mapping}
 use Rattle.rules.specs.declared.Answer.{Answer}
@@ -24,9 +23,9 @@ use Rattle.rules.specs.declared.Refusal.{Refusal}
 use Rattle.rules.specs.declared.Refusal.the-variants.{NoSuchGuest, Unsound, UnknownType}
 use Rattle.rules.specs.declared.Access.{Access}
 use Rattle.rules.specs.Sizes.{maxGuests, maxEndpoints, maxRecords, maxFaults, faultSize}
-use Rattle.rules.specs.Configuration.{windowLast, good}
+use Rattle.rules.specs.Configuration.{windowLast}
 use Rattle.rules.specs.Table.{records}
-use Rattle.rules.specs.State.{World, Device, configOf, read}
+use Rattle.rules.specs.State.{Device, configOf, read}
 use Rattle.rules.specs.Guests.{own, part, recordsOf}
 use Rattle.rules.specs.Requests.{ATTACH, DETACH, MAP, UNMAP, requestRefusals, typeOf, writableLength, domainField, endpointField, attachReserved}
 use Rattle.rules.specs.Handlers.{formSteps}

@@ -7,26 +7,25 @@ use mathlib.Core.Option.{some, none}
 use native.Mathlib.Omega.{arith}
 use lib.Dec.{leb, ltb, eqb}
 use lib.ListN.{length, getD, set, length-set}
-use lib.Seq.{set-getD, set-set}
+use lib.Seq.{set-set}
 use borrow.Author.Tests.{ltb-true, leb-true, eqb-true, eq-eqb, le-leb}
 use Rattle.laws.specs.Lists.{all?, keep, pickBy, weaveBy}
-use Rattle.laws.proofs.Tests.{both, both-left, both-right, true-false, same-test, Clear}
+use Rattle.laws.proofs.Tests.{both-left, both-right, true-false, same-test, Clear}
 use Rattle.laws.proofs.Filters.{all-imp}
 use Rattle.laws.proofs.Tables.{getD-tab}
-use Rattle.laws.proofs.Owners.{weave-pick, pick-weave}
+use Rattle.laws.proofs.Owners.{pick-weave}
 use Rattle.rules.specs.declared.Guest.{Guest}
 use Rattle.rules.specs.declared.Endpoint.{Endpoint}
 use Rattle.rules.specs.declared.Domain.{Domain}
-use Rattle.rules.specs.declared.State.{State}
 use Rattle.rules.specs.declared.Mapping.{Mapping}
 use Rattle.rules.specs.Sizes.{domainSpan, maxEndpoints, topAddress}
 use Rattle.rules.specs.Configuration.{Config}
 use Rattle.rules.specs.Table.{keyOf, guestOf}
-use Rattle.rules.specs.State.{Attachment, World, Device, noLog, flagOf, numberOf, stateOf, write}
+use Rattle.rules.specs.State.{Attachment, World, Device, flagOf, numberOf, stateOf, write}
 use Rattle.rules.specs.Guests.{Own, Part, own, part, replace, recordsOf, withRecordsOf}
-use Rattle.rules.specs.Handlers.{isIn, exists, listed, attachmentOf, attachedAs, ofKey, without, leave, enter, attached, formSteps}
+use Rattle.rules.specs.Handlers.{isIn, exists, attachmentOf, attachedAs, ofKey, without, leave, enter, formSteps}
 use Rattle.rules.specs.Sound.{guest, recordGood}
-use Rattle.rules.specs.Device.{ownerOf, is}
+use Rattle.rules.specs.Device.{ownerOf}
 use Rattle.rules.proofs.Records.{mine, key-guest, all-guests}
 use Rattle.rules.proofs.Attachments.{length-attachedAs}
 use Rattle.rules.proofs.Groups.{Good, good-facts}
@@ -38,7 +37,7 @@ use Rattle.rules.proofs.Writing.{kept}
 use Rattle.removal.specs.Removed.{within}
 use Rattle.attachments.specs.Changes.{attachedAt}
 use Rattle.attachments.specs.Search.{indexOf}
-use Rattle.effects.specs.Flat.{device, isAttached, existsFlat, removed, left, entered, moved, noDomain}
+use Rattle.effects.specs.Flat.{device, isAttached, existsFlat, removed, left, entered, noDomain}
 use Rattle.rules.proofs.PutBack.{with-kept}
 use Rattle.rules.proofs.Unchanged.{attachments-same, records-same, logs-same}
 use Rattle.effects.proofs.Places.{owner-at, attachment-at, attached-at}

@@ -1,19 +1,17 @@
 -- Changes of the fault arrays that a world wrote are those that the changed world writes.
-use Prim.Native.Nat.{ℕ, zero, suc, _+_, _-_, _*_, _/_, _%_, _≤_, _<_}
+use Prim.Native.Nat.{ℕ, suc, _+_, _-_, _*_, _/_, _%_, _≤_, _<_}
 use mathlib.Core.Path.{_≡_, refl, sym, ap, _∙_}
 use mathlib.Core.Bool.{Bool, true, false, cond, _&&_}
 use mathlib.Core.List.{List, [], _∷_, _++_}
 use mathlib.Core.Option.{none}
 use native.Mathlib.Omega.{arith}
-use lib.Dec.{leb, ltb, eqb}
+use lib.Dec.{ltb, eqb}
 use lib.ListN.{length, getD, set, drop, replicate, length-append, length-drop, List·getD-eq-default, List·getD-append}
 use lib.Seq.{getD-set-same, getD-set-other, getD-drop, getD-append-seam, set-getD}
 use borrow.Author.Tests.{ltb-true, ltb-false, eqb-true, eqb-false, le-ltb}
 use Rattle.laws.specs.Lists.{tab, weaveBy, pickBy}
 use Rattle.laws.proofs.Tables.{getD-tab, tab-same}
 use Rattle.laws.proofs.Owners.{length-weave}
-use Rattle.rules.specs.declared.Guest.{Guest}
-use Rattle.rules.specs.declared.State.{State}
 use Rattle.rules.specs.declared.Fault.{Fault}
 use Rattle.rules.specs.Sizes.{maxGuests, maxEndpoints, maxFaults, maxLost, faultPlaces}
 use Rattle.rules.specs.Configuration.{Config}

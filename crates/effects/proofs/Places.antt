@@ -9,7 +9,7 @@ use lib.Dec.{ltb, eqb}
 use lib.ListN.{length, getD, set, replicate}
 use borrow.Author.Tests.{ltb-true, eqb-true, eq-eqb, lt-ltb, not-true}
 use Rattle.laws.specs.Lists.{all?, any?, pairwise, pickBy, weaveBy, headOr, rest}
-use Rattle.laws.proofs.Tests.{both, both-left, both-right, true-false, same-test}
+use Rattle.laws.proofs.Tests.{both-left, both-right, true-false, same-test}
 use Rattle.laws.proofs.Owners.{weave-pick}
 use Rattle.rules.specs.declared.Guest.{Guest}
 use Rattle.rules.specs.declared.Endpoint.{Endpoint}

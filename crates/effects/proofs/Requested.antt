@@ -9,7 +9,7 @@ use lib.Dec.{leb, ltb, eqb}
 use lib.ListN.{length, getD, set, replicate}
 use borrow.Author.Tests.{ltb-true, leb-true, eqb-true, eq-eqb, le-leb, not-true}
 use Rattle.laws.specs.Lists.{all?, any?, keep, pairwise, weaveBy}
-use Rattle.laws.proofs.Tests.{both, both-left, both-right, true-false, same-test, Clear}
+use Rattle.laws.proofs.Tests.{both-left, both-right, true-false, same-test, Clear}
 use Rattle.laws.proofs.Filters.{keep-same}
 use Rattle.laws.proofs.Tables.{getD-tab}
 use Rattle.rules.specs.declared.Guest.{Guest}
@@ -22,11 +22,11 @@ use Rattle.rules.specs.declared.Fault.{Fault}
 use Rattle.rules.specs.Sizes.{domainSpan, maxEndpoints, maxRecords, topAddress}
 use Rattle.rules.specs.Configuration.{Config, share}
 use Rattle.rules.specs.Table.{keyOf, guestOf, overlap, insertMapping, records}
-use Rattle.rules.specs.State.{Attachment, Log, World, Device, noLog, configOf, read, flagOf, numberOf, stateOf, write}
-use Rattle.rules.specs.Guests.{Part, own, part, replace, recordsOf, withRecordsOf, withRecords, withLog}
+use Rattle.rules.specs.State.{Attachment, Log, World, noLog, configOf, read, flagOf, numberOf, stateOf, write}
+use Rattle.rules.specs.Guests.{own, part, replace, recordsOf, withRecordsOf, withRecords, withLog}
 use Rattle.rules.specs.Handlers.{outside, isIn, exists, listed, attachmentOf, ofKey, without, leave, enter, moveFrom, attached, attachSteps, handleAttach, detachSteps, handleDetach, formSteps, mapSteps, handleMap, inside, straddles, unmapSteps, handleUnmap, statusOf, attachChain, detachChain, mapChain, unmapChain}
 use Rattle.rules.specs.Access.{afterReset, logged, fetchedFrom}
-use Rattle.rules.specs.Sound.{guest, sound, inRange}
+use Rattle.rules.specs.Sound.{guest, inRange}
 use Rattle.rules.specs.Device.{ownerOf, is}
 use Rattle.rules.proofs.Records.{mine}
 use Rattle.rules.proofs.Groups.{Good, good-facts, Facts}

@@ -1,5 +1,5 @@
 -- Each call on sound state and table, as the device's step has it, is what the arrays and words give.
-use Prim.Native.Nat.{ℕ, suc, _-_, _<_}
+use Prim.Native.Nat.{ℕ, _-_, _<_}
 use mathlib.Core.Path.{_≡_, refl, sym, ap, _∙_}
 use mathlib.Core.Bool.{Bool, true, false, cond}
 use mathlib.Core.List.{List, [], _∷_}
@@ -7,20 +7,18 @@ use mathlib.Core.Option.{some, none}
 use lib.Dec.{ltb, eqb}
 use lib.ListN.{length}
 use borrow.Author.Tests.{ltb-true}
-use Rattle.laws.specs.Lists.{firstFailing, tab}
+use Rattle.laws.specs.Lists.{firstFailing}
 use Rattle.rules.specs.declared.Guest.{Guest}
-use Rattle.rules.specs.declared.State.{State}
 use Rattle.rules.specs.declared.Answer.the-variants.{Done, Served, Refused}
 use Rattle.rules.specs.declared.Refusal.{Refusal}
-use Rattle.rules.specs.declared.Refusal.the-variants.{NoSuchGuest, Unsound, UnknownType}
+use Rattle.rules.specs.declared.Refusal.the-variants.{UnknownType}
 use Rattle.rules.specs.Configuration.{Config}
 use Rattle.rules.specs.State.{World, Device, configOf, read, write}
 use Rattle.rules.specs.Guests.{Own, Part, own, part, replace}
 use Rattle.rules.specs.Requests.{DEVERR, ATTACH, DETACH, MAP, UNMAP, requestRefusals, typeOf, domainField, endpointField, attachReserved, virtStart, virtEnd, unmapReserved}
 use Rattle.rules.specs.Handlers.{handleAttach, handleDetach, handleMap, handleUnmap, askedFor, handle}
-use Rattle.rules.specs.Access.{afterReset}
 use Rattle.rules.specs.Sound.{sound}
-use Rattle.rules.specs.Device.{request, reset, Call, of-guest, refusedWith, requested, jobRule, rule, caller, numbered, work, step}
+use Rattle.rules.specs.Device.{request, reset, of-guest, requested, jobRule, rule, caller, work, step}
 use Rattle.rules.specs.Device as rules
 use Rattle.rules.proofs.Reading.{sound-whole}
 use Rattle.rules.specs.State.{Shaped}

@@ -10,15 +10,14 @@ use lib.ListN.{length, getD, set, length-set, List·getD-eq-default}
 use lib.Seq.{getD-set-same, getD-set-other}
 use borrow.Author.Tests.{ltb-true, ltb-false, eqb-true, eqb-false}
 use Rattle.laws.specs.Lists.{any?, keep, tab, pickBy}
-use Rattle.laws.proofs.Tests.{both, both-left, both-right, true-false, or-left, or-right, same-test}
+use Rattle.laws.proofs.Tests.{both-left, both-right, true-false, or-left, or-right, same-test}
 use Rattle.laws.proofs.Tables.{length-tab, getD-tab, tab-is}
 use Rattle.rules.specs.declared.Guest.{Guest}
 use Rattle.rules.specs.declared.Domain.{Domain}
-use Rattle.rules.specs.declared.State.{State}
 use Rattle.rules.specs.declared.Mapping.{Mapping}
 use Rattle.rules.specs.Sizes.{maxEndpoints, maxRecords}
 use Rattle.rules.specs.Configuration.{Config}
-use Rattle.rules.specs.Table.{insertMapping, records, tableOf}
+use Rattle.rules.specs.Table.{insertMapping, records}
 use Rattle.rules.specs.State.{Attachment, Log, World, flagOf, numberOf, stateOf, write}
 use Rattle.rules.specs.Handlers.{isIn, exists}
 use Rattle.rules.proofs.Groups.{Good}

@@ -1,7 +1,7 @@
 -- An access lands in its owner's window, and goes through exactly when a live record permits it.
 use Prim.Native.Nat.{ℕ, zero, suc, _+_, _-_, _/_, _≤_, _<_}
 use mathlib.Core.Path.{_≡_, refl, sym, ap, _∙_}
-use mathlib.Core.Bool.{Bool, true, false, cond, not, _&&_}
+use mathlib.Core.Bool.{Bool, true, false, cond, _&&_}
 use mathlib.Core.List.{List, [], _∷_}
 use mathlib.Core.Option.{Option, some, none}
 use native.Mathlib.Omega.{arith}
@@ -9,7 +9,7 @@ use lib.Dec.{leb, eqb}
 use lib.ListN.{length, getD}
 use borrow.Author.Tests.{leb-true, eqb-true, eq-eqb, le-leb, not-true}
 use Rattle.laws.specs.Lists.{all?, find, pairwise}
-use Rattle.laws.proofs.Tests.{both, both-left, both-right, true-false, Clear}
+use Rattle.laws.proofs.Tests.{both-left, both-right, true-false, Clear}
 use Rattle.laws.proofs.Filters.{found, found-passes, find-keep}
 use Rattle.laws.proofs.Tables.{all-at}
 use Rattle.rules.specs.declared.Guest.{Guest}
@@ -23,12 +23,12 @@ use Rattle.rules.specs.Sizes.{domainSpan}
 use Rattle.rules.specs.Answers.{number, addressOf}
 use Rattle.rules.specs.Configuration.{Config}
 use Rattle.rules.specs.Table.{keyOf, mapping, overlap, guestOf, apart}
-use Rattle.rules.specs.State.{Attachment, World, Device, configOf, read}
+use Rattle.rules.specs.State.{Attachment, Device, configOf, read}
 use Rattle.rules.specs.Guests.{Own, Part, own, part}
 use Rattle.rules.specs.Handlers.{outside, attachmentOf, ofKey, formSteps}
 use Rattle.rules.specs.Access.{hasFlag, permits, blocked, translated, findMapping, decided, access}
 use Rattle.rules.specs.Sound.{sound, recordGood, inRange}
-use Rattle.rules.specs.Device.{access-by, Reply, rule, caller, owns, is, step}
+use Rattle.rules.specs.Device.{access-by, Reply, rule, caller, owns, step}
 use Rattle.rules.specs.Claims.{Permitting, attachedTo, GoesTo}
 use Rattle.rules.proofs.Records.{mine, key-guest}
 use Rattle.rules.proofs.Parts.{record-form}

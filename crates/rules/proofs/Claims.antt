@@ -4,7 +4,6 @@ use mathlib.Core.Path.{_≡_, refl, sym, ap, subst, _∙_}
 use mathlib.Core.Bool.{Bool, true, false, cond, not}
 use mathlib.Core.List.{List, [], _∷_}
 use mathlib.Core.Option.{Option, some, none}
-use native.Mathlib.Omega.{arith}
 use lib.Dec.{eqb}
 use lib.ListN.{length}
 use borrow.Author.Tests.{eqb-false, eq-eqb}
@@ -16,12 +15,10 @@ use Rattle.rules.specs.declared.Access.{Access}
 use Rattle.rules.specs.declared.Answer.the-variants.{Done}
 use Rattle.rules.specs.declared.Refusal.the-variants.{NoSuchGuest}
 use Rattle.rules.specs.Answers.{number}
-use Rattle.rules.specs.Configuration.{Config, good}
-use Rattle.rules.specs.State.{World, Device, read, write, start}
+use Rattle.rules.specs.Configuration.{Config}
+use Rattle.rules.specs.State.{World, Device, write, start}
 use Rattle.rules.specs.Guests.{own, part}
-use Rattle.rules.specs.Access.{access}
-use Rattle.rules.specs.Sound.{sound}
-use Rattle.rules.specs.Device.{Call, access-by, Reply, refusedWith, rule, caller, owns, is, numbered, work, step, setUp}
+use Rattle.rules.specs.Device.{Call, access-by, Reply, refusedWith, rule, caller, owns, numbered, work, step, setUp}
 use Rattle.rules.specs.History.{noTally}
 use Rattle.rules.specs.Claims.{holds, Apart, GuestsApart, WithinWindow, AccessesStayInside, HeldIsHistory, SetUpIsSound, CallsKeepSound, NeverUnsound, OnlyWhenPermitted, WheneverPermitted}
 use Rattle.rules.proofs.Worlds.{Whole, caller-below, performedWorld, stepWorld, step-keeps, step-other, step-mine}

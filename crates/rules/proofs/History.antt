@@ -10,7 +10,6 @@ use lib.ListN.{length}
 use borrow.Author.Tests.{eqb-true}
 use Rattle.laws.specs.Lists.{keep, firstFailing}
 use Rattle.laws.specs.Runs.{after}
-use Rattle.laws.proofs.Tests.{failing-among}
 use Rattle.laws.proofs.Filters.{keep-same, split}
 use Rattle.rules.specs.declared.Guest.{Guest}
 use Rattle.rules.specs.declared.Endpoint.{Endpoint}
@@ -25,7 +24,7 @@ use Rattle.rules.specs.Guests.{Own, Part, own, part, withRecords}
 use Rattle.rules.specs.Requests.{OK, ATTACH, DETACH, MAP, requestRefusals, typeOf, domainField, endpointField, attachReserved, virtStart, virtEnd, unmapReserved, DEVERR, UNMAP}
 use Rattle.rules.specs.Handlers.{settle, isIn, attachmentOf, without, leave, enter, moveFrom, attached, attachSteps, handleAttach, detachSteps, handleDetach, mapSteps, handleMap, inside, unmapSteps, handleUnmap, askedFor, handle, statusOf}
 use Rattle.rules.specs.Access.{findMapping, blocked, translated, decided, access, afterReset}
-use Rattle.rules.specs.Device.{Job, request, reset, fetch, Call, of-guest, access-by, Reply, requested, jobRule, rule, owns, step}
+use Rattle.rules.specs.Device.{request, reset, fetch, Call, of-guest, access-by, Reply, requested, jobRule, rule, owns}
 use Rattle.rules.specs.History.{goneWithDomain, goneByMove, goneByRequest, goneByJob, gone, takenAway, mappedByJob, mapped, Tally, counted, history}
 use Rattle.rules.proofs.Records.{length-insert}
 use Rattle.rules.proofs.Worlds.{Whole, stepWorld, step-keeps, step-other, step-mine}

@@ -2,7 +2,6 @@
 use Prim.Native.Nat.{ℕ, _≤_, _<_}
 use mathlib.Core.Path.{_≡_, refl, _∙_}
 use mathlib.Core.Bool.{Bool, true, false, cond}
-use mathlib.Core.List.{List}
 use native.Mathlib.Omega.{arith}
 use lib.Dec.{ltb}
 use lib.ListN.{getD}
@@ -15,7 +14,6 @@ use Rattle.rules.specs.Sizes.{maxGuests}
 use Rattle.rules.specs.Configuration.{Config, share, windowFirst, windowLast, good}
 use Rattle.rules.specs.State.{World, trimmed, stateOf, write, start}
 use Rattle.rules.specs.Guests.{own}
-use Rattle.rules.specs.Sound.{guest}
 use Rattle.rules.proofs.Groups.{good-facts, good-tests}
 use Rattle.rules.proofs.Writing.{kept}
 

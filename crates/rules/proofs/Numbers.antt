@@ -7,24 +7,23 @@ use mathlib.Core.Option.{Option, some, none}
 use lib.Dec.{leb, ltb, eqb}
 use lib.ListN.{length, replicate}
 use borrow.Author.Tests.{ltb-true, ltb-false, leb-true, leb-false, le-leb, lt-leb, le-ltb, lt-ltb}
-use Rattle.laws.specs.Lists.{any?, find, firstFailing}
+use Rattle.laws.specs.Lists.{any?, find}
 use Rattle.rules.specs.declared.Guest.{Guest}
 use Rattle.rules.specs.declared.Domain.{Domain}
 use Rattle.rules.specs.declared.Mapping.{Mapping}
 use Rattle.rules.specs.declared.Access.{Access}
 use Rattle.rules.specs.declared.Answer.the-variants.{Done, Refused}
-use Rattle.rules.specs.declared.Refusal.{Refusal}
 use Rattle.rules.specs.declared.Refusal.the-variants.{Unsound, UnknownType, WrongLength, BadConfiguration}
 use Rattle.rules.specs.Sizes.{tableWords}
 use Rattle.rules.specs.Answers.{number}
-use Rattle.rules.specs.Configuration.{Config, good}
+use Rattle.rules.specs.Configuration.{good}
 use Rattle.rules.specs.Table.{keyOf}
 use Rattle.rules.specs.State.{Device, configOf, read, stateOf, start, zeroState}
 use Rattle.rules.specs.Guests.{Own, Part, own, part}
-use Rattle.rules.specs.Requests.{requestRefusals, typeOf, readableLength, writableLength}
+use Rattle.rules.specs.Requests.{typeOf, readableLength, writableLength}
 use Rattle.rules.specs.Access.{permits, blocked, translated, decided}
 use Rattle.rules.specs.Sound.{sound}
-use Rattle.rules.specs.Device.{Job, request, reset, fetch, Call, of-guest, access-by, Reply, requested, jobRule, rule, caller, work, performed, step, SetUp, setUp}
+use Rattle.rules.specs.Device.{Job, request, reset, fetch, of-guest, access-by, requested, jobRule, rule, caller, work, performed, step, SetUp, setUp}
 use Rattle.rules.specs.Claims.{firstNumber, noSuchGuest, attachedTo, attachedNumber, ownedNumber, RequestNumbers, ResetNumbers, FetchNumbers, AccessNumbers, SetUpNumbers}
 use Rattle.rules.proofs.Refusals.{no-such-guest, unsound, sound-step}
 use Rattle.rules.proofs.Accesses.{answered, looked-up}

@@ -1,5 +1,5 @@
 -- What soundness asks of one guest's part, the guest's rules keep.
-use Prim.Native.Nat.{ℕ, _+_, _-_, _/_, _≤_, _<_}
+use Prim.Native.Nat.{ℕ, _+_, _-_, _/_, _<_}
 use mathlib.Core.Path.{_≡_, refl, sym, ap, _∙_}
 use mathlib.Core.Bool.{Bool, true, false, cond, not, _&&_, _||_}
 use mathlib.Core.List.{List, [], _∷_}
@@ -7,9 +7,9 @@ use mathlib.Core.Option.{Option, some, none}
 use native.Mathlib.Nat.{le-trans}
 use native.Mathlib.Omega.{arith}
 use lib.Dec.{ltb, eqb}
-use lib.ListN.{length, replicate, length-append, length-drop, length-replicate}
+use lib.ListN.{length, length-append, length-drop, length-replicate}
 use borrow.Author.Tests.{ltb-true, eqb-true, eq-eqb, lt-ltb, not-true}
-use Rattle.laws.specs.Lists.{all?, any?, keep, firstFailing}
+use Rattle.laws.specs.Lists.{all?, any?, firstFailing}
 use Rattle.laws.proofs.Tests.{either-way, both, both-left, both-right, true-false, Clear, cleared, passed}
 use Rattle.laws.proofs.Filters.{all-imp, all-append, all-drop, all-keep, none-passes, length-keep, pairwise-keep}
 use Rattle.rules.specs.declared.Endpoint.{Endpoint}

@@ -5,10 +5,10 @@ use mathlib.Core.Bool.{Bool, true, false, cond, not, _&&_, _||_}
 use mathlib.Core.List.{List, [], _∷_, _++_}
 use mathlib.Core.Logic.{_⊎_, ⊎-elim}
 use native.Mathlib.Omega.{arith}
-use lib.Dec.{ltb, eqb}
+use lib.Dec.{ltb}
 use borrow.Author.Tests.{ltb-true, ltb-false, eq-eqb, ne-eqb, le-ltb, not-true}
 use Rattle.laws.specs.Lists.{all?, any?, keep, pairwise}
-use Rattle.laws.proofs.Tests.{both, both-left, both-right}
+use Rattle.laws.proofs.Tests.{both-left, both-right}
 use Rattle.laws.proofs.Filters.{all-imp, all-kept, keep-all, keep-none, keep-append, keep-keep, any-keep}
 use Rattle.rules.specs.declared.Guest.{Guest}
 use Rattle.rules.specs.declared.Mapping.{Mapping}

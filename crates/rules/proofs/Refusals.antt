@@ -1,7 +1,7 @@
 -- A call that is refused, a request whose status is not OK, and an access that goes through change nothing.
 use Prim.Native.Nat.{ℕ}
-use mathlib.Core.Path.{_≡_, refl, ap}
-use mathlib.Core.Bool.{Bool, true, false, cond, not}
+use mathlib.Core.Path.{_≡_, refl}
+use mathlib.Core.Bool.{true, false, not}
 use mathlib.Core.List.{List, []}
 use mathlib.Core.Option.{Option, some, none}
 use native.Mathlib.Omega.{arith}
@@ -16,9 +16,9 @@ use Rattle.rules.specs.declared.Access.{Access}
 use Rattle.rules.specs.declared.Refusal.{Refusal}
 use Rattle.rules.specs.declared.Refusal.the-variants.{NoSuchGuest, Unsound}
 use Rattle.rules.specs.Answers.{number}
-use Rattle.rules.specs.Configuration.{Config, good}
+use Rattle.rules.specs.Configuration.{good}
 use Rattle.rules.specs.Sizes.{tableWords}
-use Rattle.rules.specs.State.{Attachment, Device, configOf, read, zeroState, Shaped}
+use Rattle.rules.specs.State.{Attachment, Device, configOf, read, zeroState}
 use Rattle.rules.specs.Guests.{Own, Part, own, part}
 use Rattle.rules.specs.Requests.{OK, ATTACH, DETACH, MAP, UNMAP, requestRefusals, typeOf}
 use Rattle.rules.specs.Handlers.{settle, handleAttach, handleDetach, handleMap, handleUnmap, handle, attachmentOf}

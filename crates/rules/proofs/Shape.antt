@@ -1,6 +1,6 @@
 -- Sound state and table, as the code has them, are what writing their world gives.
-use Prim.Native.Nat.{ℕ, zero, _+_, _-_, _*_, _/_, _%_, _≤_, _<_}
-use mathlib.Core.Path.{_≡_, refl, sym, ap, subst, _∙_}
+use Prim.Native.Nat.{ℕ, _+_, _-_, _*_, _/_, _%_, _≤_, _<_}
+use mathlib.Core.Path.{_≡_, refl, sym, ap, _∙_}
 use mathlib.Core.Bool.{Bool, true, false, cond, not, _&&_}
 use mathlib.Core.List.{List, _++_}
 use mathlib.Core.Option.{none}
@@ -16,11 +16,10 @@ use Rattle.laws.proofs.Tables.{length-tab, getD-tab, tab-is, replicate-is}
 use Rattle.rules.specs.declared.State.{State}
 use Rattle.rules.specs.declared.Fault.{Fault}
 use Rattle.rules.specs.Sizes.{maxGuests, maxEndpoints, recordWords, tableWords, maxFaults, faultPlaces}
-use Rattle.rules.specs.Configuration.{share, windowFirst, windowLast}
 use Rattle.rules.specs.Table.{records, words, tableOf}
-use Rattle.rules.specs.State.{Shaped, Log, World, Device, noFault, noLog, configOf, attachment, attachmentAt, domainAt, faultAt, logAt, read, trimmed, flagOf, numberOf, faultPlaced, stateOf}
+use Rattle.rules.specs.State.{Shaped, Log, Device, noFault, noLog, configOf, attachment, attachmentAt, domainAt, faultAt, logAt, read, trimmed, flagOf, numberOf, stateOf}
 use Rattle.rules.specs.Handlers.{outside}
-use Rattle.rules.specs.Sound.{guest, attachmentGood, zeroFrom, faultZero, faultPlaceGood, sound}
+use Rattle.rules.specs.Sound.{attachmentGood, zeroFrom, faultZero, faultPlaceGood, sound}
 use Rattle.rules.proofs.Words.{length-records, words-split}
 use Rattle.rules.proofs.Zeros.{zero-at}
 use Rattle.rules.proofs.Groups.{Unused, Sound, sound-facts}

@@ -20,13 +20,13 @@ use Rattle.rules.specs.declared.Refusal.the-variants.{NoSuchGuest}
 use Rattle.rules.specs.Answers.{refusalNumber, number, usedLength}
 use Rattle.rules.specs.Configuration.{Config, share}
 use Rattle.rules.specs.Table.{keyOf, overlap}
-use Rattle.rules.specs.State.{Attachment, World, Device, configOf, read}
+use Rattle.rules.specs.State.{Attachment, World, configOf, read}
 use Rattle.rules.specs.Guests.{Own, Part, own, part, recordsOf, withRecords}
 use Rattle.rules.specs.Requests.{DEVERR, INVAL, NOMEM, ATTACH, DETACH, MAP, UNMAP, requestRefusals, typeOf, domainField, endpointField, attachReserved, virtStart, virtEnd, unmapReserved}
 use Rattle.rules.specs.Handlers.{Steps, orOK, statusOf, settle, attached, leave, attachSteps, handleAttach, detachSteps, handleDetach, formSteps, recordSteps, mapSteps, handleMap, inside, without, unmapSteps, handleUnmap, askedFor, handle}
 use Rattle.rules.specs.Access.{translated, blocked, decided, access}
-use Rattle.rules.specs.Sound.{sound, guest}
-use Rattle.rules.specs.Device.{Job, request, reset, fetch, Call, of-guest, access-by, Reply, refusedWith, requested, jobRule, rule, caller, numbered, work, step}
+use Rattle.rules.specs.Sound.{guest}
+use Rattle.rules.specs.Device.{Job, request, reset, fetch, Call, of-guest, access-by, Reply, refusedWith, requested, jobRule, rule, caller, numbered, work}
 use Rattle.rules.specs.Claims.{NoMemOnlyByShare, RoomWithinShare}
 use Rattle.rules.proofs.Worlds.{Whole, performedWorld, stepWorld}
 use Rattle.rules.proofs.Shares.{records-sum, shares-sum}

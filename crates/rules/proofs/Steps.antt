@@ -11,7 +11,6 @@ use lib.ListN.{length, replicate}
 use Rattle.laws.specs.Runs.{after, given}
 use Rattle.laws.proofs.Tests.{either-way}
 use Rattle.rules.specs.declared.Guest.{Guest}
-use Rattle.rules.specs.declared.Answer.{Answer}
 use Rattle.rules.specs.declared.Answer.the-variants.{Done, Refused}
 use Rattle.rules.specs.declared.Refusal.the-variants.{NoSuchGuest, Unsound, BadConfiguration}
 use Rattle.rules.specs.Sizes.{tableWords}
@@ -21,7 +20,7 @@ use Rattle.rules.specs.Table.{tableOf}
 use Rattle.rules.specs.State.{World, Device, configOf, read, write, stateOf, start, zeroState, trimmed}
 use Rattle.rules.specs.Guests.{own, part, replace}
 use Rattle.rules.specs.Sound.{sound}
-use Rattle.rules.specs.Device.{Call, of-guest, access-by, Reply, refusedWith, rule, caller, numbered, work, performed, step, SetUp, setUp}
+use Rattle.rules.specs.Device.{Call, of-guest, access-by, Reply, refusedWith, caller, numbered, work, performed, step, SetUp, setUp}
 use Rattle.rules.proofs.Worlds.{Whole, caller-below, performedWorld, stepWorld, step-keeps, start-whole}
 use Rattle.rules.proofs.Groups.{Good, good-facts}
 use Rattle.rules.proofs.Writing.{kept, config-back, read-write}

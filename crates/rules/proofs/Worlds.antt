@@ -5,11 +5,11 @@ use mathlib.Core.Bool.{Bool, true, false, cond, not}
 use mathlib.Core.List.{List, [], _∷_}
 use mathlib.Core.Option.{Option, some, none}
 use native.Mathlib.Omega.{arith}
-use lib.Dec.{leb, ltb, eqb}
-use lib.ListN.{length, getD, set, replicate, length-set, length-replicate, getD-replicate}
+use lib.Dec.{ltb, eqb}
+use lib.ListN.{length, replicate, length-set, length-replicate, getD-replicate}
 use lib.Seq.{getD-set-same, getD-set-other}
 use borrow.Author.Tests.{ltb-true, eqb-true, eqb-false, eq-eqb, lt-ltb, not-false}
-use Rattle.laws.specs.Lists.{all?, any?, keep, pickBy, pairwise}
+use Rattle.laws.specs.Lists.{all?, any?, pickBy, pairwise}
 use Rattle.laws.proofs.Tests.{either-way, both, both-left, both-right, true-false, or-left, or-right}
 use Rattle.laws.proofs.Filters.{all-imp}
 use Rattle.laws.proofs.Owners.{pick-weave, pick-weave-other, length-weave, length-pickBy}
@@ -19,7 +19,7 @@ use Rattle.rules.specs.declared.Refusal.the-variants.{NoSuchGuest, Unkno
 use Rattle.rules.specs.Configuration.{Config, good}
 use Rattle.rules.specs.Table.{guestOf, before, apart}
 use Rattle.rules.specs.State.{Attachment, World, noLog, start}
-use Rattle.rules.specs.Guests.{Own, Part, own, part, replace}
+use Rattle.rules.specs.Guests.{Part, own, part, replace}
 use Rattle.rules.specs.Handlers.{listed}
 use Rattle.rules.specs.Sound.{guest, inRange}
 use Rattle.rules.specs.Device.{Call, of-guest, access-by, Reply, refusedWith, rule, ownerOf, caller, is, owns, numbered, work}

@@ -1,21 +1,17 @@
 -- What is written into state and table is read back, and is sound.
 use Prim.Native.Nat.{ℕ, _+_, _-_, _*_, _/_, _%_, _≤_, _<_}
 use mathlib.Core.Path.{_≡_, refl, sym, _∙_}
-use mathlib.Core.Bool.{true}
 use mathlib.Core.List.{List}
 use mathlib.Core.Option.{some, none}
 use native.Mathlib.Omega.{arith}
-use lib.ListN.{length, getD, take, length-take}
+use lib.ListN.{length, getD, take}
 use lib.Seq.{ext-getD, getD-take, length-take-le}
 use Rattle.laws.specs.Lists.{tab, pad}
 use Rattle.laws.proofs.Tables.{length-tab, getD-tab, tab-is}
-use Rattle.rules.specs.declared.Guest.{Guest}
-use Rattle.rules.specs.declared.State.{State}
-use Rattle.rules.specs.declared.Fault.{Fault}
 use Rattle.rules.specs.Sizes.{maxGuests, maxEndpoints, maxFaults, maxLost, faultPlaces}
-use Rattle.rules.specs.Configuration.{Config, good}
-use Rattle.rules.specs.Table.{records, tableOf}
-use Rattle.rules.specs.State.{Attachment, Log, World, noFault, noLog, configOf, attachment, faultAt, logAt, read, trimmed, flagOf, numberOf, logOf, faultPlaced, stateOf, write}
+use Rattle.rules.specs.Configuration.{Config}
+use Rattle.rules.specs.Table.{records}
+use Rattle.rules.specs.State.{Attachment, World, noFault, noLog, configOf, attachment, faultAt, logAt, read, trimmed, flagOf, numberOf, logOf, faultPlaced, stateOf, write}
 use Rattle.rules.specs.Guests.{part}
 use Rattle.rules.specs.Sound.{guest}
 use Rattle.rules.proofs.Groups.{Good, good-facts}

@@ -25,7 +25,7 @@ use Rattle.rules.specs.Handlers.{attachmentOf}
 use Rattle.rules.specs.Access.{hasFlag, permits}
 use Rattle.rules.specs.Sound.{sound, guest, partTests, commonTests}
 use Rattle.rules.specs.Device.{request, reset, fetch, Call, of-guest, access-by, Reply, lent, rule, caller, owns, step, setUp}
-use Rattle.rules.specs.History.{Tally, noTally, history}
+use Rattle.rules.specs.History.{noTally, history}
 
 -- the guest's attachments, records in table order, log and lost count
 abbrev pub holds : Config → Guest → Device → Part

@@ -11,7 +11,6 @@ use Rattle.rules.specs.declared.Guest.{Guest}
 use Rattle.rules.specs.declared.Endpoint.{Endpoint}
 use Rattle.rules.specs.declared.Domain.{Domain}
 use Rattle.rules.specs.declared.Mapping.{Mapping}
-use Rattle.rules.specs.declared.Answer.{Answer}
 use Rattle.rules.specs.Configuration.{Config}
 use Rattle.rules.specs.Table.{keyOf}
 use Rattle.rules.specs.State.{Attachment, Device, read}

@@ -14,7 +14,6 @@ use Rattle.rules.specs.declared.DomainRange.{DomainRange}
 use Rattle.rules.specs.declared.State.{State}
 use Rattle.rules.specs.Configuration.{Config, share, windowFirst, windowLast}
 use Rattle.rules.specs.Sound.{attachmentGood}
-use Rattle.rules.specs.State.{domainAt}
 use Rattle.state.specs.Pieces.{stateWith}
 
 -- a guest's numbers: in use, with log count and lost count within their limits, or zero

@@ -2,7 +2,6 @@
 use borrow.Author.Needs.{needs}
 use mathlib.Core.Path.{ap, _∙_}
 use lib.ListN.{take}
-use Rattle.rules.specs.declared.Answer.{Answer}
 use Rattle.rules.specs.Table.{records}
 use Rattle.effects.specs.Flat.{decisionAt}
 use Rattle.effects.proofs.Decided.{decides-unknown, decides-unattached, decides-answer}

@@ -6,7 +6,7 @@ use lib.Dec.{ltb}
 use lib.ListN.{getD}
 use Rattle.laws.proofs.Turns.{Tested, tested-none, tested-next, tested-all}
 use Rattle.rules.specs.Sizes.{maxGuests}
-use Rattle.sound_places.specs.Places.{guestGood, guestPlace}
+use Rattle.sound_places.specs.Places.{guestGood}
 use Rattle.sound_places.proofs.guests.guests_good.Statement.{statement}
 use Rattle.sound_places.proofs.guests.guests_good.Tie as tie
 
