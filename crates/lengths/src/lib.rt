@@ -5,6 +5,7 @@ use rules::requests::ATTACH;
 use rules::requests::DETACH;
 use rules::requests::MAP;
 use rules::requests::UNMAP;
+use rules::sizes::STATUS_SIZE;
 
 // The number of bytes that a request of this type has in its readable part.
 pub fn readable_length(kind: u8) -> usize
@@ -24,7 +25,7 @@ pub fn writable_length(kind: u8) -> usize
     ensures { λ r. ⌜ r ≡ writableLength kind ⌝ }
 {
     match kind {
-        ATTACH..=UNMAP => 4,
+        ATTACH..=UNMAP => STATUS_SIZE,
         0 | 5..=255 => 0,
     }
 }

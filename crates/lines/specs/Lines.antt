@@ -5,13 +5,10 @@ use mathlib.Core.List.{List, [], _∷_, _++_}
 use lib.Dec.{eqb}
 use lib.ListN.{length, getD}
 use Rattle.rules.specs.declared.Answer.{Answer}
+use Rattle.rules.specs.Sizes.{statusSize}
 use Rattle.rules.specs.Answers.{number, usedLength, addressOf}
 use Rattle.printing.specs.Text.{newline, decimal, address}
 use Rattle.plain_lines.specs.Plain.{space, dash, letterA, letterR, numberLine}
-
--- the bytes that a request's status takes with those reserved after it
-abbrev pub statusSize : ℕ
-statusSize = 4
 
 -- the status in a writable part as left: the first of its last four bytes
 abbrev pub statusIn : List ℕ → ℕ

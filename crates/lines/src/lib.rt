@@ -10,13 +10,12 @@ use printing::has_room;
 use printing::put_bytes;
 use printing::put_decimal;
 use rules::Answer;
+use rules::sizes::STATUS_SIZE;
 ghost use mathlib.Core.Path.{_≡_};
 ghost use Prim.Native.Nat.{_-_};
-ghost use Rattle.lines.specs.Lines.{statusSize, statusIn, requestLine, accessLine};
+ghost use Rattle.rules.specs.Sizes.{statusSize};
+ghost use Rattle.lines.specs.Lines.{statusIn, requestLine, accessLine};
 ghost use Rattle.printing.specs.Placing.{lineRoom, written, writtenCount};
-
-// The bytes of a status with those reserved after it.
-const STATUS_SIZE: usize = 4;
 
 // Puts a request's number, used length and status; a dash for the status where the request was not worked.
 pub fn put_request(out: &mut [u8], at: usize, a: Answer, writable: &[u8]) -> usize

@@ -25,6 +25,7 @@ use rules::Guest;
 use rules::State;
 use rules::sizes::FAULT_SIZE;
 use rules::sizes::MAX_FAULTS;
+use rules::sizes::STATUS_SIZE;
 
 // What a call leaves that has given this: its record is worked, and k bytes are printed.
 fn finished(given: Given, s: &[u8], k: usize) -> Turned
@@ -75,7 +76,7 @@ pub(crate) fn request(
         return idle(p, true);
     }
     let n = items::size_of(s);
-    let mut writable: [u8; 4] = [0; 4];
+    let mut writable: [u8; STATUS_SIZE] = [0; STATUS_SIZE];
     let given = requests::request(p.state, t, g, &s[2..n], &mut writable);
     let answer = given.answer;
     let k = put_request(out, at, answer, &writable);

@@ -3,7 +3,7 @@ use native.Mathlib.Omega.{arith}
 use borrow.Author.Needs.{needs}
 use Prim.Native.Nat.{_-_}
 use lib.ListN.{length, List·getD-eq-default}
-use Rattle.lines.specs.Lines.{statusSize}
+use Rattle.rules.specs.Sizes.{statusSize}
 use Rattle.lines.proofs.status_in.Statement.{statement}
 use Rattle.lines.proofs.status_in.Tie as tie
 
