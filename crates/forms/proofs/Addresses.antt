@@ -8,8 +8,8 @@ use native.Mathlib.Nat.{pow-suc, mod-lt, mod-self, mod-eq-of-lt, mod-add-mod, eq
 use lib.Count.{trailingZeros, under}
 use lib.Dec.{leb, ltb, eqb}
 use lib.Pow.{shl-exact}
-use borrow.Author.Tests.{ltb-false, leb-true, leb-false, eq-eqb, ne-eqb, lt-ltb, le-ltb, le-leb, lt-leb}
-use Rattle.laws.proofs.Tests.{or-left, or-right, or-none, same-test}
+use borrow.Author.Tests.{ltb-false, leb-true, eq-eqb, ne-eqb, le-ltb, le-leb, lt-leb}
+use Rattle.laws.proofs.Tests.{or-left, or-right, or-none, not-both, not-leb, same-test}
 use Rattle.rules.specs.Sizes.{topAddress}
 use Rattle.rules.specs.declared.InputRange.{InputRange}
 use Rattle.rules.specs.declared.Mapping.{Mapping}
@@ -59,19 +59,6 @@ sum-within a b p l h k =
     (λ e. le-leb (p + b - a) l (omega (arith, leb-true)))
     (λ e. le-leb (b - a) (l - p) (omega (arith, leb-true)))
 
--- one test is false where the other is true
-not-leb : (a b : ℕ) → not (leb a b) ≡ ltb b a
-not-leb a b = go (leb a b) refl
-  where
-    go : (t : Bool) → leb a b ≡ t → not t ≡ ltb b a
-    go true e = sym (le-ltb b a (leb-true a b e))
-    go false e = sym (lt-ltb b a (leb-false a b e))
-
--- not both, and one or the other not
-neither : (a b : Bool) → not (a && b) ≡ (not a || not b)
-neither true b = refl
-neither false b = refl
-
 -- of the numbers from x to y one end lies outside those from a to b where x lies below or y above
 ends-out : (a b x y : ℕ) → x ≤ y → (ltb x a || ltb b y) ≡ (outside a b x || outside a b y)
 unfolding outside
@@ -87,7 +74,7 @@ ends-out a b x y h = go (ltb x a) refl (ltb b y) refl
 
 -- and the same of a record's physical addresses, by the test of its window
 window-out : (first last p a b : ℕ) → a ≤ b → not (leb a b && (leb first p && leb (p + b - a) last)) ≡ (outside first last p || outside first last (p + b - a))
-window-out first last p a b h = rw (le-leb a b h, neither (leb first p) (leb (p + b - a) last), not-leb first p, not-leb (p + b - a) last) (ends-out first last p (p + b - a) (omega arith))
+window-out first last p a b h = rw (le-leb a b h, not-both (leb first p) (leb (p + b - a) last), not-leb first p, not-leb (p + b - a) last) (ends-out first last p (p + b - a) (omega arith))
 
 -- STEPS 2 TO 6
 
@@ -102,7 +89,7 @@ module _ (mask : ℕ) (input : InputRange) (first last : ℕ) (r : Mapping) wher
       → statusOf (formChain (ltb 3 (r .flags)) false (not a) (ltb (r .start) (input .start) || ltb (input .end) (r .end)) (not w)) ≡ statusOf (formSteps (limits mask input first last) r)
   unfolding formSteps
   form-tests a w h ea ew =
-      rw (ea, ew, lt-leb (r .end) (r .start) h, ends-out (input .start) (input .end) (r .start) (r .end) (omega arith), window-out first last (r .phys) (r .start) (r .end) (omega arith), neither (eqb (r .start % granularity mask) 0) (eqb ((r .end + 1) % granularity mask) 0))
+      rw (ea, ew, lt-leb (r .end) (r .start) h, ends-out (input .start) (input .end) (r .start) (r .end) (omega arith), window-out first last (r .phys) (r .start) (r .end) (omega arith), not-both (eqb (r .start % granularity mask) 0) (eqb ((r .end + 1) % granularity mask) 0))
 
   pub form-passes : (x : ℕ) → x ≡ statusOf (formSteps (limits mask input first last) r) → eqb x OK ≡ formGood mask input first last r
   unfolding formGood

@@ -1,13 +1,13 @@
 -- Laws of tests: Bool values, lists of tests, steps of which the first that fails wins.
 use Prim.Native.Nat.{ℕ}
 use mathlib.Core.Path.{_≡_, refl, sym}
-use mathlib.Core.Bool.{Bool, true, false, cond, _&&_, _||_}
+use mathlib.Core.Bool.{Bool, true, false, cond, not, _&&_, _||_}
 use mathlib.Core.List.{List, [], _∷_, _++_}
 use mathlib.Core.Logic.{_⊎_, inl, inr}
 use mathlib.Core.Option.{some, none}
 use native.Mathlib.Omega.{arith}
-use lib.Dec.{eqb}
-use borrow.Author.Tests.{eqb-true, eq-eqb}
+use lib.Dec.{leb, ltb, eqb}
+use borrow.Author.Tests.{leb-true, leb-false, eqb-true, eq-eqb, le-ltb, lt-ltb}
 use Rattle.laws.specs.Lists.{all?, every?, firstFailing}
 
 -- cases on a test inside a term
@@ -25,6 +25,19 @@ both-right false b h = cc
 
 pub both : (a b : Bool) → a ≡ true → b ≡ true → (a && b) ≡ true
 both a b ha hb = rw (ha, hb)
+
+-- not both, and one or the other not
+pub not-both : (a b : Bool) → not (a && b) ≡ (not a || not b)
+not-both true b = refl
+not-both false b = refl
+
+-- one test of two numbers is false where the other is true
+pub not-leb : (a b : ℕ) → not (leb a b) ≡ ltb b a
+not-leb a b = go (leb a b) refl
+  where
+    go : (t : Bool) → leb a b ≡ t → not t ≡ ltb b a
+    go true e = sym (le-ltb b a (leb-true a b e))
+    go false e = sym (lt-ltb b a (leb-false a b e))
 
 pub true-false : {P : Type 0} (b : Bool) → b ≡ true → b ≡ false → P
 true-false b t f = absurd (let z : _≡_ {A = ℕ} 0 1 = cc in omega arith)

@@ -6,7 +6,8 @@ use mathlib.Core.List.{List, [], _∷_}
 use mathlib.Core.Option.{Option, some, none}
 use lib.Dec.{leb, ltb, eqb}
 use lib.ListN.{length, replicate}
-use borrow.Author.Tests.{ltb-true, ltb-false, leb-true, leb-false, le-leb, lt-leb, le-ltb, lt-ltb}
+use borrow.Author.Tests.{ltb-true, ltb-false, le-leb, lt-leb}
+use Rattle.laws.proofs.Tests.{not-both, not-leb}
 use Rattle.laws.specs.Lists.{any?, find}
 use Rattle.rules.specs.declared.Guest.{Guest}
 use Rattle.rules.specs.declared.Domain.{Domain}
@@ -51,19 +52,8 @@ job-number d g j l h = go (ltb (g .0) (d .state .settings .guests)) refl (sound 
         rw (sound-step d (of-guest g j) (unfold configOf in e) f, lt-leb (d .state .settings .guests) (g .0) (ltb-true (g .0) (d .state .settings .guests) e), f)
         (unfold caller performed work rule in h)
 
-not-leb : (a b : ℕ) → not (leb a b) ≡ ltb b a
-not-leb a b = go (leb a b) refl
-  where
-    go : (t : Bool) → leb a b ≡ t → not t ≡ ltb b a
-    go true e = sym (le-ltb b a (leb-true a b e))
-    go false e = sym (lt-ltb b a (leb-false a b e))
-
-either-fails : (a b : Bool) → not (a && b) ≡ (not a || not b)
-either-fails true b = refl
-either-fails false b = refl
-
 known-type : (t : ℕ) → not (leb 1 t && leb t 4) ≡ (ltb t 1 || ltb 4 t)
-known-type t = either-fails (leb 1 t) (leb t 4) ∙ rw (not-leb 1 t, not-leb t 4)
+known-type t = not-both (leb 1 t) (leb t 4) ∙ rw (not-leb 1 t, not-leb t 4)
 
 requested-number : (o : Own) (p : Part) (r w : List ℕ)
     → number (jobRule o p (request r w) .0 .answer)
