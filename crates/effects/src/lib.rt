@@ -9,6 +9,12 @@ pub struct Given {
     pub state: State,
 }
 
+// What a call on lent arrays gives back: its answer, and how many records are live after it.
+pub struct Performed {
+    pub answer: Answer,
+    pub live: usize,
+}
+
 // A request's status, and the state that it leaves.
 pub struct Handled {
     pub status: u8,

@@ -57,3 +57,15 @@ withCounts n l s = grouped (s .settings) (listFields s) (attachmentFields s) (s 
 
 abbrev pub withFaults : List ℕ → List ℕ → List ℕ → List ℕ → State → State
 withFaults r f e a s = grouped (s .settings) (listFields s) (attachmentFields s) (s .live) (countFields s) (r, f, e, a)
+
+-- the logs of all guests: the counts and the fault records
+abbrev pub withLogs : List ℕ → List ℕ → List ℕ → List ℕ → List ℕ → List ℕ → State → State
+withLogs n l r f e a s = grouped (s .settings) (listFields s) (attachmentFields s) (s .live) (n, l) (r, f, e, a)
+
+-- the endpoints, with their attachments, and how many records are live
+abbrev pub withEndpoints : ℕ → List ℕ → List ℕ → List ℕ → List ℕ → ℕ → State → State
+withEndpoints n es os a d live s = grouped (s .settings) (n, es, os) (a, d) live (countFields s) (faultFields s)
+
+-- which endpoints, by their owners, are attached to which domains, and how many records are live
+abbrev pub withDomains : List ℕ → List ℕ → List ℕ → ℕ → State → State
+withDomains os a d live s = withEndpoints (s .listed) (s .endpoints) os a d live s
