@@ -33,11 +33,11 @@ pub fn put_fetch(out: &mut [u8], at: usize, a: Answer, buffer: &[u8]) -> usize
         return 0;
     }
     if number_of(a) != 0 {
-        return put_number(out, at, 70, a);
+        return put_number(out, at, b'F', a);
     }
-    let head = [70, 32, 48, 32];
+    let head = [b'F', b' ', b'0', b' '];
     let next = put_bytes(out, at, &head);
     let count = count_of(a);
-    let after = put_decimal(out, next, count as u64, 10);
+    let after = put_decimal(out, next, count as u64, b'\n');
     put_records(out, after, count, buffer) - at
 }

@@ -33,7 +33,7 @@ fn record_line(bytes: &[u8]) -> [u8; RECORD_LINE]
     requires { ⌜ length (now bytes) ≡ faultSize ⌝ }
     ensures { λ r. ⌜ r ≡ hexBytes (now (bytes .entry)) ++ (newline ∷ []) ⌝ }
 {
-    let mut line = [10; RECORD_LINE];
+    let mut line = [b'\n'; RECORD_LINE];
     let mut i = FAULT_SIZE;
     while 0 < i {
         i -= 1;

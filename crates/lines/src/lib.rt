@@ -25,14 +25,14 @@ pub fn put_request(out: &mut [u8], at: usize, a: Answer, writable: &[u8]) -> usi
         return 0;
     }
     let number = number_of(a);
-    let head = [82, 32, 48 + number, 32];
+    let head = [b'R', b' ', b'0' + number, b' '];
     let next = put_bytes(out, at, &head);
-    let after = put_decimal(out, next, used_of(a) as u64, 32);
+    let after = put_decimal(out, next, used_of(a) as u64, b' ');
     if number != 0 {
-        let none = [45, 10];
+        let none = [b'-', b'\n'];
         return put_bytes(out, after, &none) - at;
     }
-    put_decimal(out, after, status_in(writable), 10) - at
+    put_decimal(out, after, status_in(writable), b'\n') - at
 }
 
 // Puts an access's number, and the address where it goes through.
@@ -40,12 +40,12 @@ pub fn put_access(out: &mut [u8], at: usize, a: Answer) -> usize
     ensures { λ r. ⌜ (r ≡ writtenCount lineRoom at (accessLine a) (now (out .entry))) × (now (out .exit) ≡ written lineRoom at (accessLine a) (now (out .entry))) ⌝ }
 {
     if number_of(a) != 0 {
-        return put_number(out, at, 65, a);
+        return put_number(out, at, b'A', a);
     }
     if !has_room(out.len(), at, LINE_ROOM) {
         return 0;
     }
-    let head = [65, 32, 48, 32];
+    let head = [b'A', b' ', b'0', b' '];
     let next = put_bytes(out, at, &head);
     let line = address_line(address_of(a));
     put_bytes(out, next, &line) - at

@@ -16,7 +16,7 @@ pub const LINE_ROOM: usize = 64;
 fn number_line(letter: u8, a: Answer) -> [u8; 4]
     ensures { λ r. ⌜ r ≡ numberLine letter a ⌝ }
 {
-    [letter, 32, 48 + number_of(a), 10]
+    [letter, b' ', b'0' + number_of(a), b'\n']
 }
 
 // Puts a letter and an answer's number.
@@ -38,7 +38,7 @@ fn put_bad(out: &mut [u8], at: usize, offset: u64) -> usize
         return 0;
     }
     let next = put_bytes(out, at, b"bad journal at ");
-    put_decimal(out, next, offset, 10) - at
+    put_decimal(out, next, offset, b'\n') - at
 }
 
 // Puts the last line of a journal that was read to its end.
@@ -48,7 +48,7 @@ fn put_end(out: &mut [u8], at: usize) -> usize
     if !has_room(out.len(), at, LINE_ROOM) {
         return 0;
     }
-    let line = [69, 10];
+    let line = [b'E', b'\n'];
     put_bytes(out, at, &line) - at
 }
 

@@ -8,7 +8,7 @@ ghost use Rattle.printing.specs.Text.{newline, address, hexBytes};
 pub fn address_line(x: u64) -> [u8; 17]
     ensures { λ r. ⌜ r ≡ address x ++ (newline ∷ []) ⌝ }
 {
-    let mut line = [10; 17];
+    let mut line = [b'\n'; 17];
     let mut n = x;
     let mut i: usize = 16;
     while 0 < i {
