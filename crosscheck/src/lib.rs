@@ -3,6 +3,7 @@
 
 pub mod access;
 pub mod answers;
+pub mod children;
 pub mod compare;
 pub mod config;
 pub mod coverage;
