@@ -15,6 +15,7 @@ pub mod generate;
 pub mod journal;
 pub mod long_journal;
 pub mod numbers;
+pub mod places;
 pub mod player;
 pub mod program;
 pub mod random;

@@ -2,7 +2,7 @@
 //! how many times faster the first is than each of the others, beside the aim.
 
 use crosscheck::children;
-use crosscheck::figures::Spread;
+use crosscheck::figures::{held_against, Spread};
 use std::env;
 use std::fs::File;
 use std::io::{self, Error};
@@ -102,10 +102,4 @@ fn figures(program: &[String], spread: Spread) -> String {
     let words = program[1..].iter().map(|word| format!(" {word}"));
     let name = file.to_string_lossy().into_owned() + &words.collect::<String>();
     format!("{name:16} {:9.0} a second, {spread} ns each", 1e9 / spread.median)
-}
-
-/// How many times faster the first program is than this one, and whether that is what it is to be.
-fn held_against(aim: f64, ratio: f64) -> String {
-    let verdict = if ratio < aim { "falls short" } else { "reached" };
-    format!("ratio {ratio:.2}, aim {aim:.1}: {verdict}")
 }
