@@ -61,7 +61,7 @@ build wide_lengths -- wide_lengths.c driver.c requests.c shown.c
 build edges -- edges.c driver.c requests.c
 "$out/edges"
 
-build stack -pthread -- stack.c stack_calls.c driver.c requests.c
+build stack -pthread -- stack.c stack_calls.c stack_devices.c driver.c requests.c
 "$out/stack"
 
 build worked_run -- worked_run.c requests.c

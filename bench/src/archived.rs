@@ -1,12 +1,10 @@
 //! A device of the archive: the state that its calls hand on, and the table that they are lent.
 
-use crate::entries::{self, DomainRange, InputRange, Settings, State};
+use crate::entries;
 use crosscheck::config::Configuration;
 use crosscheck::faults::Direction;
 use crosscheck::numbers::{Endpoint, Guest};
-
-/// The mapping table's words.
-const WORDS: usize = 1280;
+use crosscheck::places::{Settings, State, TABLE_WORDS};
 
 pub struct Archived {
     state: State,
@@ -19,11 +17,11 @@ impl Archived {
         let listed = &configuration.endpoints;
         let endpoints: Vec<u32> = listed.iter().map(|entry| entry.endpoint.0).collect();
         let owners: Vec<u8> = listed.iter().map(|entry| entry.owner.0).collect();
-        let mut table = vec![0; WORDS];
+        let mut table = vec![0; TABLE_WORDS];
         // SAFETY: each pointer is lent with the length of its list.
         let given = unsafe {
             entries::viommu_set_up(
-                settings(configuration),
+                Settings::of(configuration),
                 endpoints.as_ptr(),
                 endpoints.len(),
                 owners.as_ptr(),
@@ -95,6 +93,11 @@ impl Archived {
         self.state
     }
 
+    /// The table's words.
+    pub fn table(&self) -> &[u64] {
+        &self.table
+    }
+
     /// The records that are live.
     pub fn live(&self) -> usize {
         self.state.live
@@ -104,23 +107,4 @@ impl Archived {
     pub fn logged(&self) -> usize {
         self.state.logged.iter().sum()
     }
-}
-
-fn settings(configuration: &Configuration) -> Settings {
-    let (input, domains) = (&configuration.input_range, &configuration.domain_range);
-    let mut settings = Settings {
-        guests: configuration.guests.len(),
-        shares: [0; 4],
-        firsts: [0; 4],
-        lasts: [0; 4],
-        mask: configuration.page_size_mask,
-        input: InputRange { start: *input.start(), end: *input.end() },
-        domains: DomainRange { start: *domains.start(), end: *domains.end() },
-    };
-    for (place, guest) in configuration.guests.iter().enumerate() {
-        settings.shares[place] = guest.share.into();
-        settings.firsts[place] = *guest.window.start();
-        settings.lasts[place] = *guest.window.end();
-    }
-    settings
 }

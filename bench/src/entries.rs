@@ -1,5 +1,7 @@
 //! The archive's entries and their structs, as C sees them: by value, a slice as pointer and count.
 
+use crosscheck::places::{Settings, State};
+
 /// A guest's number and an endpoint's.
 #[repr(C)]
 #[derive(Clone, Copy)]
@@ -8,52 +10,6 @@ pub struct Guest(pub u8);
 #[repr(C)]
 #[derive(Clone, Copy)]
 pub struct Endpoint(pub u32);
-
-#[repr(C)]
-#[derive(Clone, Copy)]
-pub struct InputRange {
-    pub start: u64,
-    pub end: u64,
-}
-
-#[repr(C)]
-#[derive(Clone, Copy)]
-pub struct DomainRange {
-    pub start: u32,
-    pub end: u32,
-}
-
-/// What set-up takes besides the endpoint lists.
-#[repr(C)]
-#[derive(Clone, Copy)]
-pub struct Settings {
-    pub guests: usize,
-    pub shares: [u32; 4],
-    pub firsts: [u64; 4],
-    pub lasts: [u64; 4],
-    pub mask: u64,
-    pub input: InputRange,
-    pub domains: DomainRange,
-}
-
-/// The device's state, which each call takes and gives back.
-#[repr(C)]
-#[derive(Clone, Copy)]
-pub struct State {
-    pub settings: Settings,
-    pub listed: usize,
-    pub endpoints: [u32; 32],
-    pub owners: [u8; 32],
-    pub attached: [u8; 32],
-    pub domains: [u32; 32],
-    pub live: usize,
-    pub logged: [usize; 4],
-    pub lost: [u32; 4],
-    pub reasons: [u8; 64],
-    pub flags: [u32; 64],
-    pub sources: [u32; 64],
-    pub addresses: [u64; 64],
-}
 
 #[repr(C)]
 pub struct SetUpGiven {

@@ -1,21 +1,27 @@
 //! Times one call on equal states: the archive's through C, and the second program's.
 //!
-//! An access by an endpoint that is not listed does little else than test that state and table are
-//! sound; so does a fetch into an empty buffer, which changes nothing either. The archive's calls
-//! take the state by value and give it back; that copying is counted in, and how long it takes by
-//! itself is printed first.
+//! The test of soundness as an entry makes it: a request without bytes, which is refused right after
+//! the test, is timed through the archive, and against it the second program's test over the same
+//! places and words, used and unused, which is handed the state by value and gives it back too.
+//!
+//! The other calls are held against the second program as it is, whose state is changed in place and
+//! has no unused places. The archive's take the state by value and give it back; that copying is
+//! counted in, and how long it takes by itself is printed first.
 
 mod answers;
 mod archived;
 mod entries;
+mod flat;
 mod setting;
 
 use answers::{of_archive, of_second, Answer};
 use archived::Archived;
 use crosscheck::device::Device;
-use crosscheck::figures::Spread;
+use crosscheck::figures::{held_against, Spread};
 use crosscheck::numbers::Guest;
+use crosscheck::places::State;
 use crosscheck::record::Record;
+use flat::Flat;
 use std::hint::black_box;
 use std::time::Instant;
 
@@ -25,6 +31,8 @@ const ROUNDS: usize = 31;
 const CALLS: usize = 4096;
 const PART: usize = 128;
 const LIVE: [u32; 3] = [0, 16, 256];
+/// The archive's test of soundness is to be at least as fast as the second program's.
+const TEST_AIM: f64 = 1.0;
 /// A stride that visits the live records in an order without a simple pattern of places.
 const STRIDE: usize = 97;
 
@@ -37,9 +45,11 @@ fn main() {
         let mut devices = Devices::with_live(live);
         let unlisted = spread(&[setting::unlisted()]);
         let fetches = spread(&[Record::Fetch { guest: Guest(0), asked: 0 }]);
+        devices.report_test("empty logs");
         devices.report("empty logs, access of an unlisted endpoint", 6, &unlisted);
         devices.report("empty logs, fetch of 0 bytes", 0, &fetches);
         devices.fill_logs();
+        devices.report_test("full logs");
         devices.report("full logs, access of an unlisted endpoint", 6, &unlisted);
         devices.report("full logs, fetch of 0 bytes", 0, &fetches);
         devices.report("full logs, access blocked", 8, &spread(&setting::misses()));
@@ -94,15 +104,44 @@ impl Devices {
         for call in calls {
             assert_eq!(self.ask_both(call).0, number, "{call:?}");
         }
-        let (mut archive, mut second) = (Vec::new(), Vec::new());
-        for part in (0..ROUNDS).flat_map(|_| calls.chunks(PART)) {
-            archive.push(time(part, |call| of_archive(&mut self.archived, call)));
-            second.push(time(part, |call| of_second(&mut self.second, call)));
-        }
-        let (archive, second) = (Spread::of(&archive), Spread::of(&second));
+        let (archive, second) = in_turn(
+            calls,
+            |call| of_archive(&mut self.archived, call),
+            |call| of_second(&mut self.second, call),
+        );
         let ratio = second.median / archive.median;
         println!("  {name}: archive {archive}, second {second}, ratio {ratio:.2}");
     }
+
+    /// Times the test of soundness as an entry makes it, on the same state and table.
+    fn report_test(&mut self, logs: &str) {
+        let mut flat = Flat::of(&self.second);
+        assert!(flat.state == self.archived.state() && flat.table == self.archived.table());
+        let guest = Guest(0);
+        let nothing = Record::Request { guest, readable: Vec::new() };
+        assert_eq!(self.ask_both(&nothing), flat.request_of_nothing(guest));
+        let (archive, second) = in_turn(
+            &spread(&[nothing]),
+            |call| of_archive(&mut self.archived, call),
+            |_| flat.request_of_nothing(guest),
+        );
+        let held = held_against(TEST_AIM, second.median / archive.median);
+        println!("  {logs}, the test of soundness: archive {archive}, second {second}, {held}");
+    }
+}
+
+/// The times of one call asked of either, part by part in turn.
+fn in_turn(
+    calls: &[Record],
+    mut one: impl FnMut(&Record) -> Answer,
+    mut other: impl FnMut(&Record) -> Answer,
+) -> (Spread, Spread) {
+    let (mut of_one, mut of_other) = (Vec::new(), Vec::new());
+    for part in (0..ROUNDS).flat_map(|_| calls.chunks(PART)) {
+        of_one.push(time(part, &mut one));
+        of_other.push(time(part, &mut other));
+    }
+    (Spread::of(&of_one), Spread::of(&of_other))
 }
 
 /// The nanoseconds of one call, over all of them.
@@ -115,15 +154,15 @@ fn time<C, A>(calls: &[C], mut ask: impl FnMut(&C) -> A) -> f64 {
 }
 
 /// A fetch that does nothing but take the state and give it back.
-extern "C" fn hand_back(state: entries::State) -> entries::FetchGiven {
+extern "C" fn hand_back(state: State) -> entries::FetchGiven {
     entries::FetchGiven { number: 0, count: 0, state }
 }
 
 /// The nanoseconds of such a fetch, with the state put back in its place as after any call.
 fn handing_over() -> Spread {
     let mut state = Archived::set_up(&setting::configuration()).state();
-    let entry: extern "C" fn(entries::State) -> entries::FetchGiven = black_box(hand_back);
-    let fetch = |state: &mut entries::State| *state = entry(*state).state;
+    let entry: extern "C" fn(State) -> entries::FetchGiven = black_box(hand_back);
+    let fetch = |state: &mut State| *state = entry(*state).state;
     let times: Vec<f64> =
         (0..ROUNDS).map(|_| time(&[(); CALLS], |()| fetch(black_box(&mut state)))).collect();
     Spread::of(&times)

@@ -28,6 +28,11 @@ impl Direction {
             Direction::Write => WRITE,
         }
     }
+
+    /// The flags of a fault of such an access.
+    pub fn fault_flags(self) -> u32 {
+        self.flag() | ADDRESS
+    }
 }
 
 /// What the blocked access lacked.
@@ -50,7 +55,7 @@ impl Fault {
     pub fn bytes(&self) -> [u8; FAULT_BYTES] {
         let mut bytes = [0; FAULT_BYTES];
         bytes[0] = self.reason as u8;
-        bytes[4..8].copy_from_slice(&(self.direction.flag() | ADDRESS).to_le_bytes());
+        bytes[4..8].copy_from_slice(&self.direction.fault_flags().to_le_bytes());
         bytes[8..12].copy_from_slice(&self.endpoint.0.to_le_bytes());
         bytes[16..24].copy_from_slice(&self.address.to_le_bytes());
         bytes

@@ -1,4 +1,4 @@
-//! Medians and spreads of repeated times.
+//! Medians and spreads of repeated times, and ratios held against aims.
 
 use std::fmt;
 
@@ -26,9 +26,21 @@ impl fmt::Display for Spread {
     }
 }
 
+/// How many times faster one program is than another, beside what that is to be at least.
+pub fn held_against(aim: f64, ratio: f64) -> String {
+    let verdict = if ratio < aim { "falls short" } else { "reached" };
+    format!("ratio {ratio:.2}, aim {aim:.1}: {verdict}")
+}
+
 #[cfg(test)]
 mod tests {
-    use super::Spread;
+    use super::{held_against, Spread};
+
+    #[test]
+    fn a_ratio_is_held_against_its_aim() {
+        assert_eq!(held_against(4.0, 3.99), "ratio 3.99, aim 4.0: falls short");
+        assert_eq!(held_against(4.0, 4.0), "ratio 4.00, aim 4.0: reached");
+    }
 
     #[test]
     fn the_middle_of_some_times() {

@@ -3,6 +3,7 @@
 
 pub mod access;
 pub mod answers;
+pub mod children;
 pub mod compare;
 pub mod config;
 pub mod coverage;
@@ -14,6 +15,7 @@ pub mod generate;
 pub mod journal;
 pub mod long_journal;
 pub mod numbers;
+pub mod places;
 pub mod player;
 pub mod program;
 pub mod random;

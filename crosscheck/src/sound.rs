@@ -14,7 +14,7 @@ use crate::requests::flags_are_known;
 use crate::table::Mapping;
 
 #[cfg(test)]
-mod tests;
+pub(crate) mod tests;
 
 /// When state and table are tested.
 #[derive(Clone, Copy, Debug, PartialEq, Eq)]

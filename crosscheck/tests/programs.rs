@@ -102,7 +102,14 @@ fn wrong_arguments_are_told() {
     assert_eq!(run(CROSSCHECK, &["-", "1"]).status.code(), Some(2));
     assert_eq!(run(CROSSCHECK, &["-", "1", "many"]).status.code(), Some(2));
     assert_eq!(run(MAKE_JOURNAL, &["1", "257", "1"]).status.code(), Some(2));
-    for arguments in [&["7", "1", "-"][..], &["7", "1", "-", "--"], &["0", "1", "-", "--", "x"]] {
+    for arguments in [
+        &["7", "1", "-"][..],
+        &["7", "1", "-", "--"],
+        &["0", "1", "-", "--", "x"],
+        &["7", "1", "-", "--", "x", "--"],
+        &["7", "1", "-", "--", "x", "--", "4.0"],
+        &["7", "1", "-", "--", "x", "--", "nan", "y"],
+    ] {
         assert_eq!(run(MEASURE, arguments).status.code(), Some(2));
     }
     for arguments in [&["--truth"][..], &["--trust", "--trust"], &[""]] {
@@ -124,4 +131,26 @@ fn make_journal_makes_what_second_reads() {
     // Four guests and sixteen endpoints print nothing; the end is no record.
     assert_eq!(calls, 5000 - 20 + 1);
     assert!(text.starts_with("S 0\n") && text.ends_with("\nE\n"));
+}
+
+/// Each program has its line, and each but the first a ratio held against its aim; no ratio makes
+/// the measuring fail.
+#[test]
+fn measure_holds_ratios_against_aims() {
+    let journal = concat!(env!("CARGO_TARGET_TMPDIR"), "/measured.journal");
+    std::fs::write(journal, run(MAKE_JOURNAL, &["5000", "16", "4"]).stdout).unwrap();
+    let others = ["--", "0", SECOND, "--trust", "--", "1000000", SECOND];
+    let output = run(MEASURE, &[&["3", "5000", journal, "--", SECOND][..], &others].concat());
+    assert!(output.status.success());
+    let text = String::from_utf8(output.stdout).unwrap();
+    let lines: Vec<&str> = text.lines().collect();
+    let [first, trusting, again] = lines[..] else {
+        panic!("three lines: {text}");
+    };
+    assert!(first.starts_with("  second ") && first.ends_with(" ns each"), "{first}");
+    assert!(trusting.starts_with("  second --trust "), "{trusting}");
+    assert!(trusting.ends_with(", aim 0.0: reached"), "{trusting}");
+    assert!(again.ends_with(", aim 1000000.0: falls short"), "{again}");
+    let failing = run(MEASURE, &["1", "1", journal, "--", "false"]);
+    assert_eq!(failing.status.code(), Some(1));
 }

@@ -1,6 +1,6 @@
-/* How much stack each call of the header takes, by what it leaves of a pattern on a stack of its own, on a device whose table
-   and logs are full and on one that has just been set up; what the caller puts there to hand a state over and take one back
-   counts too. The header's VIOMMU_STACK_BYTES is to be enough for all. */
+/* How much stack each call of the header takes, by what it leaves of a pattern on a stack of its own, on devices with full
+   and with empty tables and logs; what the caller puts there to hand a state over and take one back counts too. None may take
+   more than STACK_LIMIT. */
 #define _DEFAULT_SOURCE
 #include <pthread.h>
 #include <string.h>
@@ -8,17 +8,19 @@
 #include "expect.h"
 #include "stack.h"
 
+#define STACK_LIMIT 12288 /* bytes that a call may take; the header asks its callers for more than that */
 #define ROOM (256 * 1024)
 #define PATTERN 0xab
 
-static _Alignas(4096) uint8_t stack[ROOM];
+_Static_assert(STACK_LIMIT <= VIOMMU_STACK_BYTES, "a call fits into the stack that the header asks for");
 
-/* A call as a thread works it. */
-static void *worked(void *call)
+static _Alignas(4096) uint8_t stack[ROOM];
+static void (*made)(void); /* the call that the thread makes */
+
+static void *work(void *unused)
 {
-    const struct stack_call *c = call;
-    c->make();
-    return NULL;
+    made();
+    return unused;
 }
 
 static void nothing(void)
@@ -26,14 +28,15 @@ static void nothing(void)
 }
 
 /* The bytes of stack that a thread of this call wrote to. */
-static size_t touched_by(struct stack_call call)
+static size_t touched_by(void (*call)(void))
 {
     pthread_attr_t attributes;
     pthread_t thread;
+    made = call;
     memset(stack, PATTERN, sizeof stack);
     EXPECT(pthread_attr_init(&attributes) == 0);
     EXPECT(pthread_attr_setstack(&attributes, stack, sizeof stack) == 0);
-    EXPECT(pthread_create(&thread, &attributes, worked, &call) == 0);
+    EXPECT(pthread_create(&thread, &attributes, work, NULL) == 0);
     EXPECT(pthread_join(thread, NULL) == 0);
     size_t untouched = 0;
     while (stack[untouched] == PATTERN)
@@ -41,19 +44,26 @@ static size_t touched_by(struct stack_call call)
     return sizeof stack - untouched;
 }
 
+static size_t thread_alone, count, most;
+static const char *deepest = "nothing";
+
+static void measure(const char *name, void (*call)(void))
+{
+    size_t taken = touched_by(call) - thread_alone;
+    count++;
+    if (taken > most)
+        most = taken, deepest = name;
+    if (taken > STACK_LIMIT)
+        fprintf(stderr, "stack: %zu bytes by %s\n", taken, name);
+}
+
 int main(void)
 {
-    size_t thread_alone = touched_by((struct stack_call){"nothing", nothing});
-    size_t most = 0, count = 0;
-    const char *by = "nothing";
-    for (const struct stack_call *c = next_call(); c; c = next_call()) {
-        size_t taken = touched_by(*c) - thread_alone;
-        count++;
-        if (taken > most)
-            most = taken, by = c->name;
-    }
-    printf("stack: %zu calls, at most %zu bytes, by %s, of %d that the header asks for\n", count, most, by,
-           VIOMMU_STACK_BYTES);
-    EXPECT(most <= VIOMMU_STACK_BYTES);
+    static struct stack_devices devices;
+    devices = stack_devices();
+    thread_alone = touched_by(nothing);
+    every_call(&devices, measure);
+    printf("stack: %zu calls, at most %zu bytes, by %s, of %d\n", count, most, deepest, STACK_LIMIT);
+    EXPECT(most <= STACK_LIMIT);
     return 0;
 }

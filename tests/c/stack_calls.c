@@ -1,252 +1,279 @@
-/* The calls whose stack is measured: every function of the header, every type of request, with every kind of answer. */
-#include <string.h>
-
-#include "driver.h"
+/* The calls whose stack is measured: every function of the header, every type of request, with every kind of answer, on
+   full and on empty tables and logs. */
 #include "expect.h"
 #include "stack.h"
 
-#define PAGE 0x1000
-#define OWN 64   /* records of each guest, half of them in domain 1 and half in domain 2 */
 #define NONE 255 /* stands for the status of a request that is not worked */
 
-static struct driver full;   /* table and logs full, one endpoint of guest 3's unattached */
-static struct driver fresh;  /* just set up */
-static struct driver device; /* the one that is called, a copy of one of these */
+static const struct stack_devices *on;
+static void (*measure)(const char *name, void (*call)(void));
 
-static struct viommu_settings settings(void)
-{
-    struct viommu_settings s = {
-        .guests = VIOMMU_GUESTS,
-        .mask = PAGE,
-        .input = {.start = 0, .end = UINT64_MAX},
-        .domains = {.start = 1, .end = 15},
-    };
-    for (size_t g = 0; g < VIOMMU_GUESTS; g++) {
-        s.shares[g] = OWN;
-        s.firsts[g] = 0x80000000 + 0x10000000 * g;
-        s.lasts[g] = 0x8fffffff + 0x10000000 * g;
-    }
-    return s;
-}
-
-/* Endpoints 100 to 131: of each guest one in domain 1 and seven in domain 2, but for 131, which is unattached. */
-static void set_up(void)
-{
-    uint32_t endpoints[VIOMMU_ENDPOINTS];
-    uint8_t owners[VIOMMU_ENDPOINTS];
-    for (size_t i = 0; i < VIOMMU_ENDPOINTS; i++)
-        endpoints[i] = 100 + (uint32_t)i, owners[i] = i % VIOMMU_GUESTS;
-    struct viommu_set_up_given given = viommu_set_up(settings(), endpoints, VIOMMU_ENDPOINTS, owners, VIOMMU_ENDPOINTS,
-                                                     device.table, VIOMMU_TABLE_WORDS);
-    EXPECT(given.number == VIOMMU_DONE);
-    device.state = given.state;
-}
-
-static void fill(void)
-{
-    for (uint32_t i = 0; i + 1 < VIOMMU_ENDPOINTS; i++)
-        EXPECT(ask(&device, i % VIOMMU_GUESTS, attach(i < VIOMMU_GUESTS ? 1 : 2, 100 + i, 0)) == VIOMMU_STATUS_OK);
-    for (uint8_t g = 0; g < VIOMMU_GUESTS; g++) {
-        for (uint64_t n = 1; n <= OWN; n++)
-            EXPECT(ask(&device, g, map(1 + n % 2, 2 * PAGE * n, 2 * PAGE * n + PAGE - 1, settings().firsts[g], 1)) == 0);
-        for (size_t n = 0; n <= VIOMMU_FAULTS; n++)
-            EXPECT(reach(&device, 100u + g, 0, VIOMMU_WRITE).number == VIOMMU_UNMAPPED);
-    }
-    EXPECT(device.state.live == VIOMMU_RECORDS && device.state.lost[3] == 1);
-}
-
-/* The request that is made next, the guest that makes it, and what it is answered. */
+/* The call that is made next: the device, which it may change, what it is handed besides, and what it is answered. */
+static struct driver device;
+static size_t words = VIOMMU_TABLE_WORDS;
 static struct viommu_guest guest;
+static struct viommu_endpoint endpoint;
 static struct readable asked;
+static uint64_t address;
+static uint8_t kind;
+static size_t bytes, owners;
 static uint8_t wanted_number, wanted_status;
+static size_t wanted_count;
 
 static void request(void)
 {
     uint8_t writable[4] = {NONE};
-    struct viommu_request_given given = viommu_request(device.state, device.table, VIOMMU_TABLE_WORDS, guest, asked.bytes,
-                                                       asked.count, writable, sizeof writable);
+    struct viommu_request_given given =
+        viommu_request(device.state, device.table, words, guest, asked.bytes, asked.count, writable, bytes);
     EXPECT(given.number == wanted_number && writable[0] == wanted_status);
 }
 
-/* The access that is made next. */
-static struct viommu_endpoint endpoint;
-static uint64_t address;
-
 static void access(void)
 {
-    struct viommu_access_given given =
-        viommu_access(device.state, device.table, VIOMMU_TABLE_WORDS, endpoint, address, VIOMMU_READ);
+    struct viommu_access_given given = viommu_access(device.state, device.table, words, endpoint, address, kind);
     EXPECT(given.number == wanted_number);
 }
 
 static void reset(void)
 {
-    EXPECT(viommu_reset(device.state, device.table, VIOMMU_TABLE_WORDS, guest).number == wanted_number);
+    EXPECT(viommu_reset(device.state, device.table, words, guest).number == wanted_number);
 }
 
 static void fetch(void)
 {
-    static uint8_t buffer[VIOMMU_FAULTS * VIOMMU_FAULT_BYTES];
-    struct viommu_fetch_given given =
-        viommu_fetch(device.state, device.table, VIOMMU_TABLE_WORDS, guest, buffer, sizeof buffer);
-    EXPECT(given.number == wanted_number && given.count == (wanted_number ? 0 : device.state.logged[guest.number]));
+    static uint8_t buffer[VIOMMU_FAULTS * VIOMMU_FAULT_BYTES + 1];
+    struct viommu_fetch_given given = viommu_fetch(device.state, device.table, words, guest, buffer, bytes);
+    EXPECT(given.number == wanted_number && given.count == wanted_count);
+}
+
+/* Sets up again, with the settings and the endpoints that the device's state has. */
+static void set_up(void)
+{
+    struct viommu_set_up_given given = viommu_set_up(device.state.settings, device.state.endpoints, device.state.listed,
+                                                     device.state.owners, owners, device.table, words);
+    EXPECT(given.number == wanted_number);
 }
 
 static void held(void)
 {
-    EXPECT(viommu_held(device.state, device.table, VIOMMU_TABLE_WORDS, guest) == OWN);
+    EXPECT(viommu_held(device.state, device.table, words, guest) == wanted_count);
 }
 
 static void lost(void)
 {
-    EXPECT(viommu_lost(device.state, guest) == 1);
+    EXPECT(viommu_lost(device.state, guest) == wanted_count);
 }
 
-static void lengths(void)
+static void readable_length(void)
 {
-    EXPECT(viommu_readable_length(VIOMMU_MAP) == 36 && viommu_writable_length(VIOMMU_MAP) == 4);
+    EXPECT(viommu_readable_length(kind) == wanted_count);
 }
 
-/* The set-up that is made next: the words of the table, and the guest count. */
-static size_t words, guests;
-
-static void set_up_again(void)
+static void writable_length(void)
 {
-    struct viommu_settings s = device.state.settings;
-    s.guests = guests;
-    struct viommu_set_up_given given = viommu_set_up(s, device.state.endpoints, VIOMMU_ENDPOINTS, device.state.owners,
-                                                     VIOMMU_ENDPOINTS, device.table, words);
-    EXPECT(given.number == wanted_number);
+    EXPECT(viommu_writable_length(kind) == wanted_count);
 }
 
-static struct stack_call prepared; /* the call that is ready */
-
-static void ready(const char *name, void (*make)(void), const struct driver *d, uint8_t number)
+/* A request of guest g's that is worked, and its status. */
+static void worked(const char *name, const struct driver *d, uint8_t g, struct readable r, uint8_t status)
 {
-    device = *d;
-    wanted_number = number;
-    prepared = (struct stack_call){name, make};
+    device = *d, guest.number = g, asked = r, bytes = 4, wanted_number = VIOMMU_DONE, wanted_status = status;
+    measure(name, request);
 }
 
-static void ready_request(const char *name, const struct driver *d, struct readable r, uint8_t number, uint8_t status)
+/* A request of guest g's that is not worked, with so many bytes of room for its status. */
+static void refused(const char *name, const struct driver *d, uint8_t g, struct readable r, size_t room, uint8_t number)
 {
-    ready(name, request, d, number);
-    asked = r;
-    wanted_status = status;
+    device = *d, guest.number = g, asked = r, bytes = room, wanted_number = number, wanted_status = NONE;
+    measure(name, request);
 }
 
-static void ready_access(const char *name, const struct driver *d, uint32_t e, uint64_t a, uint8_t number)
+static void reached(const char *name, const struct driver *d, uint32_t e, uint64_t a, uint8_t k, uint8_t number)
 {
-    ready(name, access, d, number);
-    endpoint.number = e;
-    address = a;
+    device = *d, endpoint.number = e, address = a, kind = k, wanted_number = number;
+    measure(name, access);
 }
 
-static void ready_set_up(size_t table_words, size_t count, uint8_t number)
+static void was_reset(const char *name, const struct driver *d, uint8_t g, uint8_t number)
 {
-    ready("viommu_set_up", set_up_again, &full, number);
-    words = table_words;
-    guests = count;
+    device = *d, guest.number = g, wanted_number = number;
+    measure(name, reset);
 }
 
-/* ATTACH and DETACH: with nothing to do, with the records of a domain to take away, and refused. */
-static int ready_attachment(size_t n)
+static void fetched(const char *name, const struct driver *d, uint8_t g, size_t room, uint8_t number, size_t count)
 {
-    switch (n) {
-    case 0: ready_request("ATTACH", &fresh, attach(1, 100, 0), 0, VIOMMU_STATUS_OK); return 1;
-    case 1: ready_request("ATTACH again", &full, attach(1, 100, 0), 0, VIOMMU_STATUS_OK); return 1;
-    case 2: ready_request("ATTACH that moves", &full, attach(2, 100, 0), 0, VIOMMU_STATUS_OK); return 1;
-    case 3: ready_request("ATTACH refused", &full, attach(16, 100, 0), 0, VIOMMU_STATUS_RANGE); return 1;
-    case 4: ready_request("DETACH of the last", &full, detach(1, 100, 0), 0, VIOMMU_STATUS_OK); return 1;
-    case 5: ready_request("DETACH of one of seven", &full, detach(2, 104, 0), 0, VIOMMU_STATUS_OK); return 1;
-    case 6: ready_request("DETACH refused", &full, detach(2, 100, 0), 0, VIOMMU_STATUS_INVAL); return 1;
-    default: return 0;
-    }
+    device = *d, guest.number = g, bytes = room, wanted_number = number, wanted_count = count;
+    measure(name, fetch);
 }
 
-/* Guest 0's MAP of pages from 1 on in domain 1; the record of page 1 would stand before all others. */
-static struct readable map_to(uint64_t page)
+/* A query by a guest's number or a request's type. */
+static void asked_for(const char *name, void (*query)(void), uint8_t number, size_t count)
 {
-    return map(1, PAGE, PAGE * page + PAGE - 1, 0x80000000, VIOMMU_FLAG_READ);
+    device = on->full, guest.number = number, kind = number, wanted_count = count;
+    measure(name, query);
 }
 
-/* MAP and UNMAP. Page 2 is mapped in domain 2. */
-static int ready_mapping(size_t n)
+/* ATTACH and DETACH: with nothing to do, with the records of a domain to take away, and refused at each step. */
+static void attachments(void)
 {
-    struct driver room = full;
-    EXPECT(ask(&room, 0, unmap(2, 2 * PAGE, 3 * PAGE - 1, 0)) == VIOMMU_STATUS_OK);
-    switch (n) {
-    case 0: ready_request("MAP", &room, map_to(1), 0, VIOMMU_STATUS_OK); return 1;
-    case 1: ready_request("MAP past the share", &full, map_to(1), 0, VIOMMU_STATUS_NOMEM); return 1;
-    case 2: ready_request("MAP that overlaps", &full, map_to(100), 0, VIOMMU_STATUS_INVAL); return 1;
-    case 3: ready_request("MAP of no domain", &fresh, map_to(1), 0, VIOMMU_STATUS_NOENT); return 1;
-    case 4: ready_request("UNMAP of all", &full, unmap(1, 0, UINT64_MAX, 0), 0, VIOMMU_STATUS_OK); return 1;
-    case 5: ready_request("UNMAP of none", &full, unmap(1, 0, 1, 0), 0, VIOMMU_STATUS_OK); return 1;
-    case 6: ready_request("UNMAP that cuts", &full, unmap(1, 0, 4 * PAGE, 0), 0, VIOMMU_STATUS_RANGE); return 1;
-    default: return 0;
-    }
+    worked("ATTACH", &on->fresh, 0, attach(1, 100, 0), VIOMMU_STATUS_OK);
+    worked("ATTACH, table and logs full", &on->full, 3, attach(1, 131, 0), VIOMMU_STATUS_OK);
+    worked("ATTACH again", &on->full, 0, attach(1, 100, 0), VIOMMU_STATUS_OK);
+    worked("ATTACH that moves the last", &on->full, 0, attach(2, 100, 0), VIOMMU_STATUS_OK);
+    worked("ATTACH that moves one of seven", &on->full, 0, attach(1, 104, 0), VIOMMU_STATUS_OK);
+    worked("ATTACH with reserved bits", &on->full, 0, attach(1, 100, 1), VIOMMU_STATUS_INVAL);
+    worked("ATTACH of no endpoint", &on->full, 0, attach(1, 99, 0), VIOMMU_STATUS_NOENT);
+    worked("ATTACH of another's", &on->full, 0, attach(1, 101, 0), VIOMMU_STATUS_NOENT);
+    worked("ATTACH out of range", &on->full, 0, attach(16, 100, 0), VIOMMU_STATUS_RANGE);
+    worked("DETACH of the last", &on->full, 0, detach(1, 100, 0), VIOMMU_STATUS_OK);
+    worked("DETACH of the last, last guest", &on->full, 3, detach(1, 103, 0), VIOMMU_STATUS_OK);
+    worked("DETACH of one of seven", &on->full, 0, detach(2, 104, 0), VIOMMU_STATUS_OK);
+    worked("DETACH with reserved bits", &on->full, 0, detach(1, 100, 1), VIOMMU_STATUS_INVAL);
+    worked("DETACH of no endpoint", &on->full, 0, detach(1, 99, 0), VIOMMU_STATUS_NOENT);
+    worked("DETACH from elsewhere", &on->full, 0, detach(2, 100, 0), VIOMMU_STATUS_INVAL);
+    worked("DETACH, just set up", &on->fresh, 0, detach(1, 100, 0), VIOMMU_STATUS_INVAL);
 }
 
-/* Requests that are not worked. */
-static int ready_refused(size_t n)
+/* Guest 0's MAP of pages in domain 1; the record of page 1 would stand before all others. */
+static struct readable map_of(uint64_t first, uint64_t last, uint64_t phys, uint32_t flags)
 {
-    struct readable r = attach(1, 100, 0);
-    struct driver unsound = full;
-    unsound.state.flags[VIOMMU_FAULT_PLACES - 1] = 0;
-    switch (n) {
-    case 0: r.bytes[0] = 5, ready_request("a request of type 5", &full, r, VIOMMU_UNKNOWN_TYPE, NONE); return 1;
-    case 1: r.count = 19, ready_request("a request cut short", &full, r, VIOMMU_WRONG_LENGTH, NONE); return 1;
-    case 2: ready_request("a request, unsound", &unsound, r, VIOMMU_UNSOUND, NONE); return 1;
-    case 3: ready_access("an access, unsound", &unsound, 100, 0, VIOMMU_UNSOUND); return 1;
-    case 4: ready("a reset, unsound", reset, &unsound, VIOMMU_UNSOUND); return 1;
-    case 5: ready("a fetch, unsound", fetch, &unsound, VIOMMU_UNSOUND); return 1;
-    default: return 0;
-    }
+    return map(1, PAGE * first, PAGE * last + PAGE - 1, phys, flags);
 }
 
-/* Accesses: page 2 is mapped in domain 2 alone, page 4 in domain 1 alone. */
-static int ready_access_of(size_t n)
+/* MAP and UNMAP, refused at each step. Guest 0's page 2 was mapped in domain 2, page 4 is in domain 1. */
+static void mappings(void)
 {
-    switch (n) {
-    case 0: ready_access("an access through", &full, 104, 2 * PAGE, VIOMMU_DONE); return 1;
-    case 1: ready_access("an access blocked, log full", &full, 104, 4 * PAGE, VIOMMU_UNMAPPED); return 1;
-    case 2: ready_access("an access of nobody's", &full, 99, 2 * PAGE, VIOMMU_UNKNOWN_ENDPOINT); return 1;
-    case 3: ready_access("an access unattached, log full", &full, 131, 2 * PAGE, VIOMMU_UNATTACHED); return 1;
-    case 4: ready_access("an access unattached, logged", &fresh, 100, 2 * PAGE, VIOMMU_UNATTACHED); return 1;
-    default: return 0;
-    }
+    uint64_t start = on->full.state.settings.firsts[0];
+    worked("MAP before all others", &on->room, 0, map_of(1, 1, start, 3), VIOMMU_STATUS_OK);
+    worked("MAP of no domain", &on->fresh, 0, map_of(1, 1, start, 3), VIOMMU_STATUS_NOENT);
+    worked("MAP with other flags", &on->room, 0, map_of(1, 1, start, 4), VIOMMU_STATUS_INVAL);
+    worked("MAP of less than nothing", &on->room, 0, map_of(2, 0, start, 3), VIOMMU_STATUS_RANGE);
+    worked("MAP of parts of pages", &on->room, 0, map(1, PAGE, PAGE + 1, start, 3), VIOMMU_STATUS_RANGE);
+    worked("MAP past the input range", &on->room, 0, map_of(1, 1 << 20, start, 3), VIOMMU_STATUS_RANGE);
+    worked("MAP out of the window", &on->room, 0, map_of(1, 1, start - 1, 3), VIOMMU_STATUS_FAULT);
+    worked("MAP that overlaps", &on->room, 0, map_of(1, 100, start, 3), VIOMMU_STATUS_INVAL);
+    worked("MAP past the share", &on->full, 0, map_of(1, 1, start, 3), VIOMMU_STATUS_NOMEM);
+    worked("UNMAP of all", &on->full, 0, unmap(1, 0, UINT64_MAX, 0), VIOMMU_STATUS_OK);
+    worked("UNMAP of one", &on->full, 0, unmap(1, 4 * PAGE, 5 * PAGE - 1, 0), VIOMMU_STATUS_OK);
+    worked("UNMAP of none", &on->full, 0, unmap(1, 0, 1, 0), VIOMMU_STATUS_OK);
+    worked("UNMAP of no domain", &on->fresh, 0, unmap(1, 0, 1, 0), VIOMMU_STATUS_NOENT);
+    worked("UNMAP with reserved bits", &on->full, 0, unmap(1, 0, 1, 1), VIOMMU_STATUS_INVAL);
+    worked("UNMAP of less than nothing", &on->full, 0, unmap(1, 1, 0, 0), VIOMMU_STATUS_RANGE);
+    worked("UNMAP that cuts", &on->full, 0, unmap(1, 0, 4 * PAGE, 0), VIOMMU_STATUS_RANGE);
 }
 
-/* Resets, fetches, queries and set-ups. */
-static int ready_other(size_t n)
+/* Accesses: page 2 is mapped in domain 2 alone, page 4 in domain 1 alone, and both for reads. */
+static void accesses(void)
 {
-    switch (n) {
-    case 0: ready("viommu_reset", reset, &full, VIOMMU_DONE); return 1;
-    case 1: ready("viommu_reset", reset, &fresh, VIOMMU_DONE); return 1;
-    case 2: ready("viommu_fetch", fetch, &full, VIOMMU_DONE); return 1;
-    case 3: ready("viommu_fetch", fetch, &fresh, VIOMMU_DONE); return 1;
-    case 4: ready("viommu_held", held, &full, VIOMMU_DONE); return 1;
-    case 5: ready("viommu_lost", lost, &full, VIOMMU_DONE); return 1;
-    case 6: ready("the lengths", lengths, &full, VIOMMU_DONE); return 1;
-    case 7: ready_set_up(VIOMMU_TABLE_WORDS, VIOMMU_GUESTS, VIOMMU_DONE); return 1;
-    case 8: ready_set_up(VIOMMU_TABLE_WORDS, 5, VIOMMU_BAD_CONFIGURATION); return 1;
-    case 9: ready_set_up(VIOMMU_TABLE_WORDS - 1, VIOMMU_GUESTS, VIOMMU_UNSOUND); return 1;
-    default: return 0;
-    }
+    reached("an access through", &on->full, 104, 2 * PAGE, VIOMMU_READ, VIOMMU_DONE);
+    reached("an access through, last record", &on->full, 127, 2 * PAGE * (OWN - 1), VIOMMU_READ, VIOMMU_DONE);
+    reached("an access blocked, logged", &on->quiet, 104, 4 * PAGE, VIOMMU_READ, VIOMMU_UNMAPPED);
+    reached("an access blocked, lost", &on->full, 104, 4 * PAGE, VIOMMU_READ, VIOMMU_UNMAPPED);
+    reached("an access blocked, lost at most", &on->at_most, 104, 4 * PAGE, VIOMMU_READ, VIOMMU_UNMAPPED);
+    reached("a write blocked, logged", &on->one, 104, 2 * PAGE, VIOMMU_WRITE, VIOMMU_UNMAPPED);
+    reached("an access unattached, logged", &on->fresh, 100, 2 * PAGE, VIOMMU_READ, VIOMMU_UNATTACHED);
+    reached("an access unattached, table full", &on->quiet, 131, 2 * PAGE, VIOMMU_READ, VIOMMU_UNATTACHED);
+    reached("an access unattached, lost", &on->full, 131, 2 * PAGE, VIOMMU_READ, VIOMMU_UNATTACHED);
+    reached("an access of nobody's", &on->full, 99, 2 * PAGE, VIOMMU_READ, VIOMMU_UNKNOWN_ENDPOINT);
 }
 
-const struct stack_call *next_call(void)
+static void resets(void)
 {
-    static int (*const lists[])(size_t) = {ready_attachment, ready_mapping, ready_refused, ready_access_of, ready_other};
-    static size_t list, n;
-    if (full.state.live == 0) {
-        set_up();
-        fresh = device;
-        fill();
-        full = device;
-    }
-    for (; list < sizeof lists / sizeof *lists; list++, n = 0)
-        if (lists[list](n++))
-            return &prepared;
-    return NULL;
+    was_reset("a reset, first guest", &on->full, 0, VIOMMU_DONE);
+    was_reset("a reset, last guest", &on->full, 3, VIOMMU_DONE);
+    was_reset("a reset, logs empty", &on->quiet, 0, VIOMMU_DONE);
+    was_reset("a reset, just set up", &on->fresh, 0, VIOMMU_DONE);
+}
+
+static void fetches(void)
+{
+    fetched("a fetch of 16", &on->full, 0, VIOMMU_FAULTS * VIOMMU_FAULT_BYTES + 1, VIOMMU_DONE, VIOMMU_FAULTS);
+    fetched("a fetch of 16, last guest", &on->full, 3, VIOMMU_FAULTS * VIOMMU_FAULT_BYTES, VIOMMU_DONE, VIOMMU_FAULTS);
+    fetched("a fetch of 1 of 16", &on->full, 0, VIOMMU_FAULT_BYTES, VIOMMU_DONE, 1);
+    fetched("a fetch of 0 of 16", &on->full, 0, VIOMMU_FAULT_BYTES - 1, VIOMMU_DONE, 0);
+    fetched("a fetch into nothing", &on->full, 0, 0, VIOMMU_DONE, 0);
+    fetched("a fetch of 1", &on->one, 0, VIOMMU_FAULTS * VIOMMU_FAULT_BYTES, VIOMMU_DONE, 1);
+    fetched("a fetch of 0", &on->quiet, 0, VIOMMU_FAULTS * VIOMMU_FAULT_BYTES, VIOMMU_DONE, 0);
+    fetched("a fetch, just set up", &on->fresh, 0, VIOMMU_FAULTS * VIOMMU_FAULT_BYTES, VIOMMU_DONE, 0);
+}
+
+/* Calls that are not worked because of the guest's number, the state or the table. */
+static void refusals(void)
+{
+    struct readable r = attach(2, 100, 0);
+    refused("a request of no guest", &on->full, VIOMMU_GUESTS, r, 4, VIOMMU_NO_SUCH_GUEST);
+    was_reset("a reset of no guest", &on->full, VIOMMU_GUESTS, VIOMMU_NO_SUCH_GUEST);
+    fetched("a fetch of no guest", &on->full, VIOMMU_GUESTS, VIOMMU_FAULT_BYTES, VIOMMU_NO_SUCH_GUEST, 0);
+    refused("a request, unsound", &on->unsound, 0, r, 4, VIOMMU_UNSOUND);
+    reached("an access, unsound", &on->unsound, 100, 0, VIOMMU_READ, VIOMMU_UNSOUND);
+    was_reset("a reset, unsound", &on->unsound, 0, VIOMMU_UNSOUND);
+    fetched("a fetch, unsound", &on->unsound, 0, VIOMMU_FAULT_BYTES, VIOMMU_UNSOUND, 0);
+    words = VIOMMU_TABLE_WORDS - 1;
+    refused("a request, table cut", &on->full, 0, r, 4, VIOMMU_UNSOUND);
+    reached("an access, table cut", &on->full, 100, 0, VIOMMU_READ, VIOMMU_UNSOUND);
+    was_reset("a reset, table cut", &on->full, 0, VIOMMU_UNSOUND);
+    fetched("a fetch, table cut", &on->full, 0, VIOMMU_FAULT_BYTES, VIOMMU_UNSOUND, 0);
+    words = VIOMMU_TABLE_WORDS;
+}
+
+/* Requests that are not worked because of their bytes. */
+static void refused_requests(void)
+{
+    struct readable r = attach(2, 100, 0), tiny = r, cut = r, unknown = r;
+    tiny.count = 3, cut.count = 19, unknown.bytes[0] = 5;
+    refused("a request below 4 bytes", &on->full, 0, tiny, 4, VIOMMU_WRONG_LENGTH);
+    refused("a request of type 5", &on->full, 0, unknown, 4, VIOMMU_UNKNOWN_TYPE);
+    refused("a request cut short", &on->full, 0, cut, 4, VIOMMU_WRONG_LENGTH);
+    refused("a request without room for its status", &on->full, 0, r, 0, VIOMMU_WRONG_LENGTH);
+}
+
+/* Set-up on a full table, with settings and lists as the device has them but for one thing. */
+static void set_up_again(const char *name, size_t count, uint8_t number)
+{
+    owners = count, wanted_number = number;
+    measure(name, set_up);
+}
+
+static void set_ups(void)
+{
+    device = on->full;
+    set_up_again("a set-up", VIOMMU_ENDPOINTS, VIOMMU_DONE);
+    device = on->full, device.state.listed = 0;
+    set_up_again("a set-up without endpoints", 0, VIOMMU_DONE);
+    device = on->full, device.state.settings.guests = VIOMMU_GUESTS + 1;
+    set_up_again("a set-up of five guests", VIOMMU_ENDPOINTS, VIOMMU_BAD_CONFIGURATION);
+    device = on->full, device.state.endpoints[VIOMMU_ENDPOINTS - 1] = 100;
+    set_up_again("a set-up with an endpoint twice", VIOMMU_ENDPOINTS, VIOMMU_BAD_CONFIGURATION);
+    device = on->full;
+    set_up_again("a set-up with unequal lists", VIOMMU_ENDPOINTS - 1, VIOMMU_BAD_CONFIGURATION);
+    words = VIOMMU_TABLE_WORDS - 1;
+    set_up_again("a set-up, table cut", VIOMMU_ENDPOINTS, VIOMMU_UNSOUND);
+    words = VIOMMU_TABLE_WORDS;
+}
+
+static void queries(void)
+{
+    asked_for("records held, last guest", held, 3, OWN);
+    asked_for("records held, no guest", held, VIOMMU_GUESTS, 0);
+    asked_for("faults lost, last guest", lost, 3, 1);
+    asked_for("faults lost, no guest", lost, VIOMMU_GUESTS, 0);
+    asked_for("the length of MAP's readable part", readable_length, VIOMMU_MAP, 36);
+    asked_for("the length of type 5's readable part", readable_length, 5, 0);
+    asked_for("the length of MAP's writable part", writable_length, VIOMMU_MAP, 4);
+    asked_for("the length of type 5's writable part", writable_length, 5, 0);
+}
+
+void every_call(const struct stack_devices *devices, void (*measured)(const char *name, void (*call)(void)))
+{
+    on = devices;
+    measure = measured;
+    attachments();
+    mappings();
+    accesses();
+    resets();
+    fetches();
+    refusals();
+    refused_requests();
+    set_ups();
+    queries();
 }

@@ -1,21 +1,31 @@
-//! Times journal programs on one journal, in turn, and prints how many records each does a second.
+//! Times journal programs on one journal, in turn, by the processor time that each takes, and prints
+//! how many times faster the first is than each of the others, beside the aim.
 
-use crosscheck::figures::Spread;
+use crosscheck::children;
+use crosscheck::figures::{held_against, Spread};
 use std::env;
 use std::fs::File;
 use std::io::{self, Error};
 use std::path::Path;
 use std::process::{Command, ExitCode, Stdio};
-use std::time::Instant;
 
-const USAGE: &str = "usage: measure REPETITIONS RECORDS JOURNAL -- PROGRAM [ARGUMENT...] [-- ...]";
+const USAGE: &str = "usage: measure REPETITIONS RECORDS JOURNAL -- PROGRAM [ARGUMENT...] \
+    [-- AIM PROGRAM [ARGUMENT...]]...";
 
-/// What is measured: the journal and its number of records, and the programs with their arguments.
+/// What is measured: the journal and its number of records, the program, and those that it is held
+/// against.
 struct Plan<'a> {
     repetitions: usize,
     records: u64,
     journal: &'a Path,
-    programs: Vec<&'a [String]>,
+    program: &'a [String],
+    others: Vec<Other<'a>>,
+}
+
+/// A program that the first one is to be so many times faster than.
+struct Other<'a> {
+    aim: f64,
+    program: &'a [String],
 }
 
 fn main() -> ExitCode {
@@ -38,22 +48,28 @@ fn parse(arguments: &[String]) -> Option<Plan<'_>> {
     let [repetitions, records, journal] = parts.next()? else {
         return None;
     };
-    let plan = Plan {
+    Some(Plan {
         repetitions: repetitions.parse().ok().filter(|count| *count > 0)?,
         records: records.parse().ok().filter(|count| *count > 0)?,
         journal: Path::new(journal),
-        programs: parts.collect(),
-    };
-    let complete = plan.programs.iter().all(|program| !program.is_empty());
-    (complete && !plan.programs.is_empty()).then_some(plan)
+        program: parts.next().filter(|program| !program.is_empty())?,
+        others: parts.map(parse_other).collect::<Option<_>>()?,
+    })
+}
+
+fn parse_other(words: &[String]) -> Option<Other<'_>> {
+    let (aim, program) = words.split_first().filter(|(_, program)| !program.is_empty())?;
+    Some(Other { aim: aim.parse().ok().filter(|aim: &f64| aim.is_finite())?, program })
 }
 
 /// Runs the programs in turn, so that a slow moment of the machine hits all of them, after one run
-/// of each that is not counted. A ratio above 1 says that the first program is the faster one.
+/// of each that is not counted.
 fn measure(plan: &Plan) -> io::Result<()> {
-    let mut times = vec![Vec::new(); plan.programs.len()];
+    let others = plan.others.iter().map(|other| other.program);
+    let programs: Vec<&[String]> = [plan.program].into_iter().chain(others).collect();
+    let mut times = vec![Vec::new(); programs.len()];
     for repetition in 0..=plan.repetitions {
-        for (program, times) in plan.programs.iter().zip(&mut times) {
+        for (program, times) in programs.iter().zip(&mut times) {
             let nanoseconds = run(program, plan.journal)?;
             if repetition > 0 {
                 times.push(nanoseconds / plan.records as f64);
@@ -61,31 +77,29 @@ fn measure(plan: &Plan) -> io::Result<()> {
         }
     }
     let spreads: Vec<Spread> = times.iter().map(|times| Spread::of(times)).collect();
-    for (program, spread) in plan.programs.iter().zip(&spreads) {
-        let a_second = 1e9 / spread.median;
-        let ratio = spread.median / spreads[0].median;
-        let name = name(program);
-        println!("  {name:16} {a_second:9.0} a second, {spread} ns each, ratio {ratio:.2}");
+    println!("  {}", figures(plan.program, spreads[0]));
+    for (other, spread) in plan.others.iter().zip(&spreads[1..]) {
+        let held = held_against(other.aim, spread.median / spreads[0].median);
+        println!("  {}, {held}", figures(other.program, *spread));
     }
     Ok(())
 }
 
-/// The nanoseconds a program takes over the journal, what it prints thrown away.
+/// The nanoseconds that a program computes over the journal, what it prints thrown away.
 fn run(program: &[String], journal: &Path) -> io::Result<f64> {
     let mut command = Command::new(&program[0]);
     command.args(&program[1..]).stdin(File::open(journal)?).stdout(Stdio::null());
-    let start = Instant::now();
-    let status = command.status()?;
-    let taken = start.elapsed();
-    if !status.success() {
-        return Err(Error::other(format!("{} ends with {status}", program[0])));
+    let ended = children::run(&mut command)?;
+    if !ended.status.success() {
+        return Err(Error::other(format!("{} ends with {}", program[0], ended.status)));
     }
-    Ok(taken.as_nanos() as f64)
+    Ok(ended.processor_time.as_nanos() as f64)
 }
 
-/// The program's file name and its arguments.
-fn name(program: &[String]) -> String {
+/// A program's file name and arguments, the records that it does in a second, and the time of one.
+fn figures(program: &[String], spread: Spread) -> String {
     let file = Path::new(&program[0]).file_name().unwrap_or_default();
     let words = program[1..].iter().map(|word| format!(" {word}"));
-    file.to_string_lossy().into_owned() + &words.collect::<String>()
+    let name = file.to_string_lossy().into_owned() + &words.collect::<String>();
+    format!("{name:16} {:9.0} a second, {spread} ns each", 1e9 / spread.median)
 }

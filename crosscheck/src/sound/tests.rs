@@ -1,10 +1,11 @@
-//! A sound device, and each clause broken once.
+//! A sound device, and each clause broken once; the test over flat places is asked too.
 
 use crate::answers::Refusal;
 use crate::config::{Configuration, GuestShare, ListedEndpoint, MOST_RECORDS};
 use crate::device::Device;
 use crate::faults::{Direction, Fault, Reason, LOG_PLACES};
 use crate::numbers::{Domain, Endpoint, Guest};
+use crate::places::{table_of, State};
 use crate::sound::SoundnessTest;
 use crate::table::Mapping;
 use std::ops::RangeInclusive;
@@ -50,7 +51,7 @@ fn fault(endpoint: u32) -> Fault {
 
 /// Guest 0 uses domains 1 and 2, guest 1 domain 1; endpoint 11 is unattached; both logs hold
 /// faults, that of guest 1 as many as there are places.
-fn sound_device() -> Device {
+pub fn sound_device() -> Device {
     let mut device = Device::set_up(configuration()).expect("a good configuration");
     device.attached = vec![Some(Domain(1)), Some(Domain(1)), Some(Domain(2)), None];
     device.table.records = vec![
@@ -64,12 +65,23 @@ fn sound_device() -> Device {
     device
 }
 
+/// Whether the device is sound, as the test over the flat places of its lists says too.
+fn is_sound(device: &Device) -> bool {
+    let sound = device.is_sound();
+    assert_eq!(State::of(device).is_sound(&table_of(device)), sound);
+    sound
+}
+
 /// After the change the device is not sound, and every kind of call is refused with 2.
 fn refused(change: impl FnOnce(&mut Device)) {
     let mut device = sound_device();
-    assert!(device.is_sound());
+    assert!(is_sound(&device));
     change(&mut device);
-    assert!(!device.is_sound());
+    assert!(!is_sound(&device));
+    every_call_is_refused(device);
+}
+
+fn every_call_is_refused(mut device: Device) {
     let refusal = Refusal::NotSound;
     assert_eq!(device.request(G0, &[], &mut []), Err(refusal));
     assert_eq!(device.access(Endpoint(8), PAGE, Direction::Read), Err(refusal));
@@ -88,7 +100,7 @@ fn the_sound_device_is_served() {
     assert_eq!(device.fetch(G0, &mut []), Ok(0));
     assert_eq!(device.access(Endpoint(8), PAGE, Direction::Read), Ok(0x8000_0000));
     assert_eq!(device.reset(G0), Ok(()));
-    assert!(device.is_sound());
+    assert!(is_sound(&device));
 }
 
 /// Each change makes the configuration bad by one clause.
@@ -109,7 +121,7 @@ fn the_configuration_is_good() {
 fn one_to_four_guests() {
     let mut none = sound_device();
     none.configuration.guests.clear();
-    assert!(!none.is_sound());
+    assert!(!is_sound(&none));
     assert_eq!(none.fetch(G0, &mut []), Err(Refusal::NoSuchGuest));
     assert_eq!(none.access(Endpoint(8), PAGE, Direction::Read), Err(Refusal::NotSound));
     refused(|device| {
@@ -132,10 +144,14 @@ fn at_most_32_endpoints() {
     });
 }
 
+/// Flat places cannot lack one of these.
 #[test]
 fn an_attachment_for_each_endpoint_and_a_log_for_each_guest() {
-    refused(|device| device.attached.truncate(3));
-    refused(|device| device.logs.truncate(1));
+    let (mut unattached, mut logless) = (sound_device(), sound_device());
+    unattached.attached.truncate(3);
+    every_call_is_refused(unattached);
+    logless.logs.truncate(1);
+    every_call_is_refused(logless);
 }
 
 #[test]
@@ -146,9 +162,9 @@ fn at_most_256_records() {
     device.configuration.guests[1].share = 256;
     device.configuration.input_range = 0..=0xfff_ffff;
     device.table.records = pages(u64::from(MOST_RECORDS));
-    assert!(device.is_sound());
+    assert!(is_sound(&device));
     device.table.records = pages(u64::from(MOST_RECORDS) + 1);
-    assert!(!device.is_sound());
+    assert!(!is_sound(&device));
 }
 
 /// By guest, then by domain, then by virt_start.
@@ -249,5 +265,5 @@ fn trust_skips_the_test() {
     let mut device = sound_device().with_test(SoundnessTest::SetUpAlone);
     device.attached[3] = Some(Domain(16));
     assert_eq!(device.fetch(G0, &mut []), Ok(0));
-    assert!(!Device::zeroed().is_sound());
+    assert!(!is_sound(&Device::zeroed()));
 }
