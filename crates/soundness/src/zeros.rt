@@ -3,7 +3,7 @@ ghost use mathlib.Core.Path.{_≡_};
 ghost use Rattle.rules.specs.Sound.{zeroFrom};
 
 // Whether all words from place n on are zero.
-pub fn zero_from(x: &[u64], n: usize) -> bool
+pub(crate) fn zero_from(x: &[u64], n: usize) -> bool
     ensures { λ b. ⌜ b ≡ zeroFrom n (now (x .entry)) ⌝ }
 {
     let mut bits: u64 = 0;
