@@ -1,5 +1,5 @@
 -- What each entry shows at its returns.
-use Prim.Native.Nat.{ℕ, _+_, _-_, _*_, _/_, _≤_, _<_}
+use Prim.Native.Nat.{ℕ, _*_, _/_, _≤_, _<_}
 use mathlib.Core.Path.{_≡_, refl, sym, ap, subst, _∙_}
 use mathlib.Core.Bool.{Bool, true, false, cond, not, _&&_}
 use mathlib.Core.List.{List, [], _∷_}
@@ -9,35 +9,21 @@ use native.Mathlib.Nat.{min-le-left, min-le-right}
 use denote.Enum.Declared.{tagOf}
 use types.Run.{OneOf, miss}
 use lib.Dec.{ltb, leb, eqb}
-use lib.ListN.{length, getD, take}
-use borrow.Author.Tests.{lt-ltb, le-ltb, le-leb, leb-true, eqb-true, eqb-false, not-true, not-false}
-use Rattle.laws.specs.Lists.{all?, firstFailing}
-use Rattle.laws.proofs.Tests.{both-left, both-right, Clear, cleared}
-use Rattle.laws.proofs.Filters.{all-imp, found}
+use lib.ListN.{length, getD}
+use borrow.Author.Tests.{lt-ltb, le-ltb, leb-true, eqb-true, eqb-false, not-false}
+use Rattle.laws.specs.Lists.{firstFailing}
+use Rattle.laws.proofs.Tests.{both-left, both-right, cleared}
 use Rattle.rules.specs.declared.Guest.{Guest}
 use Rattle.rules.specs.declared.State.{State}
-use Rattle.rules.specs.declared.Mapping.{Mapping}
-use Rattle.rules.specs.declared.Answer.{Answer}
 use Rattle.rules.specs.declared.Answer.the-variants.{Done, Served, Fetched, Refused}
 use Rattle.rules.specs.declared.Refusal.{Refusal}
 use Rattle.rules.specs.declared.Refusal.the-variants.{NoSuchGuest, Unsound, UnknownType}
-use Rattle.rules.specs.declared.Access.{Access}
-use Rattle.rules.specs.Sizes.{maxGuests, maxEndpoints, maxRecords, maxFaults, faultSize}
-use Rattle.rules.specs.Configuration.{windowLast}
-use Rattle.rules.specs.Table.{records}
-use Rattle.rules.specs.State.{Device, configOf, read}
-use Rattle.rules.specs.Guests.{own, part, recordsOf}
+use Rattle.rules.specs.Sizes.{maxGuests, maxRecords, maxFaults, faultSize}
+use Rattle.rules.specs.State.{Device, configOf}
 use Rattle.rules.specs.Requests.{ATTACH, DETACH, MAP, UNMAP, requestRefusals, typeOf, writableLength, domainField, endpointField, attachReserved}
-use Rattle.rules.specs.Handlers.{formSteps}
-use Rattle.rules.specs.Access.{permits, findMapping}
-use Rattle.rules.specs.Sound.{guest, sound, recordGood}
-use Rattle.rules.specs.Device.{Job, request, reset, fetch, of-guest, access-by, Reply, lentFor, refusedWith, step}
-use Rattle.rules.proofs.Parts.{record-form}
-use Rattle.rules.proofs.Records.{all-guests}
-use Rattle.rules.proofs.Chains.{formed}
-use Rattle.rules.proofs.Worlds.{Whole}
-use Rattle.rules.proofs.Accesses.{permits-covers}
-use Rattle.rules.proofs.Reading.{sound-good, sound-whole}
+use Rattle.rules.specs.Sound.{sound}
+use Rattle.rules.specs.Device.{Job, request, reset, fetch, of-guest, Reply, lentFor, refusedWith, step}
+use Rattle.rules.proofs.Reading.{sound-good}
 use Rattle.rules.proofs.Groups.{sound-facts}
 use Rattle.rules.specs.State.{Shaped}
 use Rattle.layouts.specs.declared.request.Request.{Request}
@@ -45,17 +31,16 @@ use Rattle.layouts.specs.declared.request.Request.the-variants.{Attach, Detach,
 use Rattle.layouts.specs.declared.request.Request.the-variants as Q
 use Rattle.layouts.specs.Parsed.{mapFields, unmapFields, asked, unless, parsed}
 use Rattle.layouts.proofs.request.Request as request-type
-use Rattle.effects.specs.Flat.{device, Worked, worked, resetFlat, decision, afterAccess, fetchCount, fetchBytes}
+use Rattle.effects.specs.Flat.{device, Worked, worked, resetFlat, fetchCount, fetchBytes}
 use Rattle.effects.specs.declared.Checked.{Checked}
 use Rattle.effects.specs.declared.Checked.the-variants.{Passed}
 use Rattle.effects.specs.declared.Checked.the-variants as C
 use Rattle.effects.specs.Checks.{jobChecked}
 use Rattle.effects.specs.Serve.{handled}
-use Rattle.rules.proofs.Shape.{small-count}
 use Rattle.rules.proofs.Refusals.{no-such-guest, unsound}
 use Rattle.effects.proofs.Stepped.{reset-step, refused-step, served-step}
 use Rattle.dropping.specs.Changes.{faultsDropped}
-use Rattle.effects.proofs.Answered.{access-step, fetch-step}
+use Rattle.effects.proofs.Answered.{fetch-step}
 
 -- JOBS
 
@@ -101,23 +86,11 @@ module _ (s : State) (ws : List ℕ) (g : Guest) (on : sound (device s ws) ≡ t
       → (record { answer = Fetched n; buffer = c }, device r ws) ≡ step (device s ws) (of-guest g (fetch b))
   fetch-works b c n r x y z = rw (y, z, x) (sym (fetch-step (device s ws) on k g b below))
 
--- ACCESSES
-
-module _ (s : State) (ws : List ℕ) (x : Access) (t : Bool) (i : t ≡ sound (device s ws)) where
-  pub access-unsound : not t ≡ true → (record { answer = Refused Unsound; buffer = [] }, device s ws) ≡ step (device s ws) (access-by x)
-  access-unsound f = sym (unsound (device s ws) (access-by x) refl (sym i ∙ not-true t f))
-
-  pub access-works : not t ≡ false → Shaped s → (a : Answer) (r : State) → a ≡ decision (device s ws) x → r ≡ afterAccess s x a → (record { answer = a; buffer = [] }, device r ws) ≡ step (device s ws) (access-by x)
-  access-works f k a r y z = rw (z, y) (sym (access-step (device s ws) (sym i ∙ not-false t f) k x))
-
 -- WHAT SOUND STATE AND TABLE BOUND
 
 module _ (s : State) (ws : List ℕ) (h : sound (device s ws) ≡ true) (k : Shaped s) where
   d : Device
   d = device s ws
-
-  pub listed-fits : s .listed ≤ maxEndpoints
-  listed-fits = small-count (device s ws) h k
 
   pub live-fits : s .live ≤ maxRecords
   live-fits = sound-facts (device s ws) h .frame .live
@@ -132,27 +105,6 @@ module _ (s : State) (ws : List ℕ) (h : sound (device s ws) ≡ true) (k : Sha
       let a = min-le-left (getD (s .logged) (g .0) 0) (length b / faultSize) in
       let c = min-le-right (getD (s .logged) (g .0) 0) (length b / faultSize) in
       (omega (arith, held, a, e), omega (arith, c, e))
-
-  whole : Whole (configOf s) (read (device s ws))
-  whole = sound-whole (device s ws) h
-
-  -- every record's last address is one of 64 bits
-  module _ (wide : (i : ℕ) → windowLast (s .settings) i ≤ 18446744073709551615) where
-    form-lands : (n : ℕ) (r : Mapping) → Clear (formSteps (own (configOf s) (guest n)) r) → leb (r .phys + r .end - r .start) 18446744073709551615 ≡ true
-    form-lands n r f =
-        let h : r .phys + r .end - r .start ≤ windowLast (s .settings) n = unfold own configOf in formed (own (configOf s) (guest n)) r f .phys-end-within .1 in
-        le-leb (r .phys + r .end - r .start) 18446744073709551615 (omega (arith, wide n))
-
-    all-land : all? (λ r. leb (r .phys + r .end - r .start) 18446744073709551615) (read (device s ws) .records) ≡ true
-    all-land =
-        all-guests (configOf s .settings .guests) (λ n r. leb (r .phys + r .end - r .start) 18446744073709551615) (read (device s ws) .records) (whole .guests)
-        (λ n l. unfold part in all-imp (recordGood (own (configOf s) (guest n)) (part (configOf s) (guest n) (read (device s ws)) .attachments)) (λ r. leb (r .phys + r .end - r .start) 18446744073709551615) (recordsOf (guest n) (read (device s ws) .records)) (λ r o. form-lands n r (record-form (own (configOf s) (guest n)) (part (configOf s) (guest n) (read (device s ws)) .attachments) r o)) (whole .parts (guest n) l .records))
-
-    pub lands-fit : (x : Access) (key : ℕ) (r : Mapping) → findMapping key x (take (s .live) (records ws)) ≡ some r → x .address - r .start + r .phys ≤ 18446744073709551615
-    lands-fit x key r e =
-        let q = found (permits key x) (λ y. leb (y .phys + y .end - y .start) 18446744073709551615) (take (s .live) (records ws)) r (unfold findMapping in e) (unfold read in all-land) in
-        let v = permits-covers key x r (q .0) in
-        omega (arith, v .from, v .to, leb-true (r .phys + r .end - r .start) 18446744073709551615 (q .1))
 
 -- REQUESTS
 

@@ -1,4 +1,5 @@
 pub mod Flat
+pub mod Translating
 pub mod Outcome
 pub mod Serve
 pub mod Replied
