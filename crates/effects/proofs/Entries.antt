@@ -1,15 +1,14 @@
 -- What each entry shows at its returns.
-use Prim.Native.Nat.{ℕ, _+_, _-_, _*_, _/_, _≤_, _<_}
+use Prim.Native.Nat.{ℕ, _+_, _-_, _≤_, _<_}
 use mathlib.Core.Path.{_≡_, refl, sym, ap, subst, _∙_}
 use mathlib.Core.Bool.{Bool, true, false, cond, not, _&&_}
 use mathlib.Core.List.{List, [], _∷_}
 use mathlib.Core.Option.{Option, some, none}
 use native.Mathlib.Omega.{arith}
-use native.Mathlib.Nat.{min-le-left, min-le-right}
 use denote.Enum.Declared.{tagOf}
 use types.Run.{OneOf, miss}
 use lib.Dec.{ltb, leb, eqb}
-use lib.ListN.{length, getD, take}
+use lib.ListN.{length, take}
 use borrow.Author.Tests.{lt-ltb, le-ltb, le-leb, leb-true, eqb-true, eqb-false, not-true, not-false}
 use Rattle.laws.specs.Lists.{all?, firstFailing}
 use Rattle.laws.proofs.Tests.{both-left, both-right, Clear, cleared}
@@ -18,11 +17,11 @@ use Rattle.rules.specs.declared.Guest.{Guest}
 use Rattle.rules.specs.declared.State.{State}
 use Rattle.rules.specs.declared.Mapping.{Mapping}
 use Rattle.rules.specs.declared.Answer.{Answer}
-use Rattle.rules.specs.declared.Answer.the-variants.{Done, Served, Fetched, Refused}
+use Rattle.rules.specs.declared.Answer.the-variants.{Served, Refused}
 use Rattle.rules.specs.declared.Refusal.{Refusal}
 use Rattle.rules.specs.declared.Refusal.the-variants.{NoSuchGuest, Unsound, UnknownType}
 use Rattle.rules.specs.declared.Access.{Access}
-use Rattle.rules.specs.Sizes.{maxGuests, maxEndpoints, maxRecords, maxFaults, faultSize}
+use Rattle.rules.specs.Sizes.{maxGuests, maxEndpoints, maxRecords}
 use Rattle.rules.specs.Configuration.{windowLast}
 use Rattle.rules.specs.Table.{records}
 use Rattle.rules.specs.State.{Device, configOf, read}
@@ -31,7 +30,7 @@ use Rattle.rules.specs.Requests.{ATTACH, DETACH, MAP, UNMAP, requestRefusals, t
 use Rattle.rules.specs.Handlers.{formSteps}
 use Rattle.rules.specs.Access.{permits, findMapping}
 use Rattle.rules.specs.Sound.{guest, sound, recordGood}
-use Rattle.rules.specs.Device.{Job, request, reset, fetch, of-guest, access-by, Reply, lentFor, refusedWith, step}
+use Rattle.rules.specs.Device.{Job, request, of-guest, access-by, Reply, lentFor, refusedWith, step}
 use Rattle.rules.proofs.Parts.{record-form}
 use Rattle.rules.proofs.Records.{all-guests}
 use Rattle.rules.proofs.Chains.{formed}
@@ -45,7 +44,7 @@ use Rattle.layouts.specs.declared.request.Request.the-variants.{Attach, Detach,
 use Rattle.layouts.specs.declared.request.Request.the-variants as Q
 use Rattle.layouts.specs.Parsed.{mapFields, unmapFields, asked, unless, parsed}
 use Rattle.layouts.proofs.request.Request as request-type
-use Rattle.effects.specs.Flat.{device, Worked, worked, resetFlat, decision, afterAccess, fetchCount, fetchBytes}
+use Rattle.effects.specs.Flat.{device, Worked, worked, decision, afterAccess}
 use Rattle.effects.specs.declared.Checked.{Checked}
 use Rattle.effects.specs.declared.Checked.the-variants.{Passed}
 use Rattle.effects.specs.declared.Checked.the-variants as C
@@ -53,9 +52,8 @@ use Rattle.effects.specs.Checks.{jobChecked}
 use Rattle.effects.specs.Serve.{handled}
 use Rattle.rules.proofs.Shape.{small-count}
 use Rattle.rules.proofs.Refusals.{no-such-guest, unsound}
-use Rattle.effects.proofs.Stepped.{reset-step, refused-step, served-step}
-use Rattle.dropping.specs.Changes.{faultsDropped}
-use Rattle.effects.proofs.Answered.{access-step, fetch-step}
+use Rattle.effects.proofs.Stepped.{refused-step, served-step}
+use Rattle.effects.proofs.Answered.{access-step}
 
 -- JOBS
 
@@ -92,15 +90,6 @@ module _ (s : State) (ws : List ℕ) (g : Guest) (r : Checked) (e : r ≡ jobChe
       go true t false v q = absurd (let z : Passed ≡ C.Refused Unsound = q ∙ rw (t, v) in let y : _≡_ {A = ℕ} 0 1 = cc in omega arith)
       go true t true v q = (refl, refl)
 
--- a job on sound state and table
-module _ (s : State) (ws : List ℕ) (g : Guest) (on : sound (device s ws) ≡ true) (below : ltb (g .0) (s .settings .guests) ≡ true) (k : Shaped s) where
-  pub reset-works : (r : State) (vs : List ℕ) → device r vs ≡ resetFlat (device s ws) g → (record { answer = Done; buffer = [] }, device r vs) ≡ step (device s ws) (of-guest g reset)
-  reset-works r vs x = ap (λ (y : Device). (record { answer = Done; buffer = [] }, y)) x ∙ sym (reset-step (device s ws) on k g below)
-
-  pub fetch-works : (b c : List ℕ) (n : ℕ) (r : State) → n ≡ fetchCount s g (length b) → c ≡ fetchBytes s g n b → r ≡ faultsDropped s g n
-      → (record { answer = Fetched n; buffer = c }, device r ws) ≡ step (device s ws) (of-guest g (fetch b))
-  fetch-works b c n r x y z = rw (y, z, x) (sym (fetch-step (device s ws) on k g b below))
-
 -- ACCESSES
 
 module _ (s : State) (ws : List ℕ) (x : Access) (t : Bool) (i : t ≡ sound (device s ws)) where
@@ -124,14 +113,6 @@ module _ (s : State) (ws : List ℕ) (h : sound (device s ws) ≡ true) (k : Sha
 
   pub few-guests : s .settings .guests ≤ maxGuests
   few-guests = unfold configOf in sound-good (device s ws) h .guests .1
-
-  -- a log's count is within its limit, and what is fetched fits
-  pub count-fits : (g : Guest) → g .0 < s .settings .guests → (b : List ℕ) (n : ℕ) → n ≡ fetchCount s g (length b) → (n ≤ maxFaults) × (faultSize * n ≤ length b)
-  count-fits g l b n e =
-      let held = sound-facts (device s ws) h .places .counts (g .0) l in
-      let a = min-le-left (getD (s .logged) (g .0) 0) (length b / faultSize) in
-      let c = min-le-right (getD (s .logged) (g .0) 0) (length b / faultSize) in
-      (omega (arith, held, a, e), omega (arith, c, e))
 
   whole : Whole (configOf s) (read (device s ws))
   whole = sound-whole (device s ws) h

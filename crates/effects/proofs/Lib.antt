@@ -12,3 +12,5 @@ pub mod Decided
 pub mod Entries
 pub mod Cases
 pub mod Started
+pub mod Resetting
+pub mod Fetching
