@@ -1,28 +1,27 @@
 -- What each entry shows at its returns.
-use Prim.Native.Nat.{ℕ, _*_, _/_, _≤_, _<_}
+use Prim.Native.Nat.{ℕ, _≤_, _<_}
 use mathlib.Core.Path.{_≡_, refl, sym, ap, subst, _∙_}
 use mathlib.Core.Bool.{Bool, true, false, cond, not, _&&_}
 use mathlib.Core.List.{List, [], _∷_}
 use mathlib.Core.Option.{Option, some, none}
 use native.Mathlib.Omega.{arith}
-use native.Mathlib.Nat.{min-le-left, min-le-right}
 use denote.Enum.Declared.{tagOf}
 use types.Run.{OneOf, miss}
 use lib.Dec.{ltb, leb, eqb}
-use lib.ListN.{length, getD}
+use lib.ListN.{length}
 use borrow.Author.Tests.{lt-ltb, le-ltb, leb-true, eqb-true, eqb-false, not-false}
 use Rattle.laws.specs.Lists.{firstFailing}
 use Rattle.laws.proofs.Tests.{both-left, both-right, cleared}
 use Rattle.rules.specs.declared.Guest.{Guest}
 use Rattle.rules.specs.declared.State.{State}
-use Rattle.rules.specs.declared.Answer.the-variants.{Done, Served, Fetched, Refused}
+use Rattle.rules.specs.declared.Answer.the-variants.{Served, Refused}
 use Rattle.rules.specs.declared.Refusal.{Refusal}
 use Rattle.rules.specs.declared.Refusal.the-variants.{NoSuchGuest, Unsound, UnknownType}
-use Rattle.rules.specs.Sizes.{maxGuests, maxRecords, maxFaults, faultSize}
+use Rattle.rules.specs.Sizes.{maxGuests, maxRecords}
 use Rattle.rules.specs.State.{Device, configOf}
 use Rattle.rules.specs.Requests.{ATTACH, DETACH, MAP, UNMAP, requestRefusals, typeOf, writableLength, domainField, endpointField, attachReserved}
 use Rattle.rules.specs.Sound.{sound}
-use Rattle.rules.specs.Device.{Job, request, reset, fetch, of-guest, Reply, lentFor, refusedWith, step}
+use Rattle.rules.specs.Device.{Job, request, of-guest, Reply, lentFor, refusedWith, step}
 use Rattle.rules.proofs.Reading.{sound-good}
 use Rattle.rules.proofs.Groups.{sound-facts}
 use Rattle.rules.specs.State.{Shaped}
@@ -31,16 +30,14 @@ use Rattle.layouts.specs.declared.request.Request.the-variants.{Attach, Detach,
 use Rattle.layouts.specs.declared.request.Request.the-variants as Q
 use Rattle.layouts.specs.Parsed.{mapFields, unmapFields, asked, unless, parsed}
 use Rattle.layouts.proofs.request.Request as request-type
-use Rattle.effects.specs.Flat.{device, Worked, worked, resetFlat, fetchCount, fetchBytes}
+use Rattle.effects.specs.Flat.{device, Worked, worked}
 use Rattle.effects.specs.declared.Checked.{Checked}
 use Rattle.effects.specs.declared.Checked.the-variants.{Passed}
 use Rattle.effects.specs.declared.Checked.the-variants as C
 use Rattle.effects.specs.Checks.{jobChecked}
 use Rattle.effects.specs.Serve.{handled}
 use Rattle.rules.proofs.Refusals.{no-such-guest, unsound}
-use Rattle.effects.proofs.Stepped.{reset-step, refused-step, served-step}
-use Rattle.dropping.specs.Changes.{faultsDropped}
-use Rattle.effects.proofs.Answered.{fetch-step}
+use Rattle.effects.proofs.Stepped.{refused-step, served-step}
 
 -- JOBS
 
@@ -77,15 +74,6 @@ module _ (s : State) (ws : List ℕ) (g : Guest) (r : Checked) (e : r ≡ jobChe
       go true t false v q = absurd (let z : Passed ≡ C.Refused Unsound = q ∙ rw (t, v) in let y : _≡_ {A = ℕ} 0 1 = cc in omega arith)
       go true t true v q = (refl, refl)
 
--- a job on sound state and table
-module _ (s : State) (ws : List ℕ) (g : Guest) (on : sound (device s ws) ≡ true) (below : ltb (g .0) (s .settings .guests) ≡ true) (k : Shaped s) where
-  pub reset-works : (r : State) (vs : List ℕ) → device r vs ≡ resetFlat (device s ws) g → (record { answer = Done; buffer = [] }, device r vs) ≡ step (device s ws) (of-guest g reset)
-  reset-works r vs x = ap (λ (y : Device). (record { answer = Done; buffer = [] }, y)) x ∙ sym (reset-step (device s ws) on k g below)
-
-  pub fetch-works : (b c : List ℕ) (n : ℕ) (r : State) → n ≡ fetchCount s g (length b) → c ≡ fetchBytes s g n b → r ≡ faultsDropped s g n
-      → (record { answer = Fetched n; buffer = c }, device r ws) ≡ step (device s ws) (of-guest g (fetch b))
-  fetch-works b c n r x y z = rw (y, z, x) (sym (fetch-step (device s ws) on k g b below))
-
 -- WHAT SOUND STATE AND TABLE BOUND
 
 module _ (s : State) (ws : List ℕ) (h : sound (device s ws) ≡ true) (k : Shaped s) where
@@ -97,14 +85,6 @@ module _ (s : State) (ws : List ℕ) (h : sound (device s ws) ≡ true) (k : Sha
 
   pub few-guests : s .settings .guests ≤ maxGuests
   few-guests = unfold configOf in sound-good (device s ws) h .guests .1
-
-  -- a log's count is within its limit, and what is fetched fits
-  pub count-fits : (g : Guest) → g .0 < s .settings .guests → (b : List ℕ) (n : ℕ) → n ≡ fetchCount s g (length b) → (n ≤ maxFaults) × (faultSize * n ≤ length b)
-  count-fits g l b n e =
-      let held = sound-facts (device s ws) h .places .counts (g .0) l in
-      let a = min-le-left (getD (s .logged) (g .0) 0) (length b / faultSize) in
-      let c = min-le-right (getD (s .logged) (g .0) 0) (length b / faultSize) in
-      (omega (arith, held, a, e), omega (arith, c, e))
 
 -- REQUESTS
 

@@ -1,5 +1,5 @@
 -- What each function of the code shows at its returns, as laws on states and words.
-use Prim.Native.Nat.{ℕ, _+_, _*_, _-_}
+use Prim.Native.Nat.{ℕ}
 use mathlib.Core.Path.{_≡_, sym, ap, _∙_}
 use mathlib.Core.Bool.{Bool, true, false}
 use mathlib.Core.List.{List}
@@ -9,14 +9,13 @@ use Rattle.rules.specs.declared.Guest.{Guest}
 use Rattle.rules.specs.declared.Domain.{Domain}
 use Rattle.rules.specs.declared.Endpoint.{Endpoint}
 use Rattle.rules.specs.declared.State.{State}
-use Rattle.rules.specs.Sizes.{domainSpan, topAddress}
+use Rattle.rules.specs.Sizes.{topAddress}
 use Rattle.rules.specs.Table.{keyOf}
 use Rattle.rules.specs.State.{Device}
 use Rattle.removal.specs.Removed.{keptOf, removedWords}
 use Rattle.state.specs.Fields.{withLive}
 use Rattle.attachments.specs.Changes.{attachedAt}
-use Rattle.resets.specs.Changes.{guestCleared}
-use Rattle.effects.specs.Flat.{device, worked, settled, placeOfEndpoint, existsFlat, removed, left, entered, moved, attachStatus, attachFlat, detachStatus, detachFlat, resetFlat, noDomain}
+use Rattle.effects.specs.Flat.{device, worked, settled, placeOfEndpoint, existsFlat, removed, left, entered, moved, attachStatus, attachFlat, detachStatus, detachFlat, noDomain}
 
 pub remove-turn : (s : State) (ws vs : List ℕ) (low high a b n : ℕ) → n ≡ length (keptOf (s .live) low high a b ws) → vs ≡ removedWords (s .live) low high a b ws → device (withLive n s) vs ≡ removed (device s ws) low high a b
 unfolding removed
@@ -67,7 +66,3 @@ module _ (s : State) (ws : List ℕ) (g : Guest) (dom : Domain) (e : Endpoint) (
   pub detach-works : (r : State) (vs : List ℕ) → n ≡ detachStatus s g dom i z → n ≡ 0 → device r vs ≡ left (device s ws) g i dom → worked 0 (device r vs) ≡ detachFlat (device s ws) g dom e z
   unfolding detachFlat
   detach-works r vs x h y = settled-works n _ (device s ws) _ (device r vs) (x ∙ ap (λ j. detachStatus s g dom j z) at) h (y ∙ ap (λ j. left (device s ws) g j dom) at)
-
-pub reset-turn : (s t r : State) (ws vs : List ℕ) (g : Guest) (low high : ℕ) → t ≡ guestCleared s g → low ≡ g .0 * domainSpan → high ≡ low + (domainSpan - 1) → device r vs ≡ removed (device t ws) low high 0 topAddress → device r vs ≡ resetFlat (device s ws) g
-unfolding resetFlat
-reset-turn s t r ws vs g low high e a b x = x ∙ rw (e, b, a)

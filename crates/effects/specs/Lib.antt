@@ -5,3 +5,5 @@ pub mod Serve
 pub mod Replied
 pub mod Checks
 pub mod Setting
+pub mod Resetting
+pub mod Fetching

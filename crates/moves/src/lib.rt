@@ -1,10 +1,7 @@
-// Endpoints that leave and enter domains, the records that go with a domain, and a guest's reset.
-mod resetting;
-
+// Endpoints that leave and enter domains, and the records that go with a domain.
 ghost use mathlib.Core.Path.{_≡_};
 ghost use Rattle.rules.specs.Table.{keyOf};
 ghost use Rattle.effects.specs.Flat.{device, removed, left, moved};
-pub use resetting::reset;
 use rules::Domain;
 use rules::Guest;
 use rules::State;

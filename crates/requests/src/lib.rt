@@ -1,6 +1,4 @@
-// Requests, refusals in order and then the handler of the type; and a guest's reset.
-pub mod resetting;
-
+// Requests, refusals in order and then the handler of the type.
 ghost use mathlib.Core.Path.{_≡_};
 ghost use mathlib.Core.Bool.{true};
 ghost use Prim.Native.Nat.{_<_};

@@ -1,4 +1,4 @@
--- What the functions of fetches show at their returns, as laws on states and lists.
+-- The bytes of faults, put into a buffer one record after another.
 use Prim.Native.Nat.{ℕ, zero, suc, _+_, _-_, _*_, _≤_}
 use mathlib.Core.Path.{_≡_, refl, sym, ap, _∙_}
 use mathlib.Core.Bool.{cond}
@@ -6,7 +6,7 @@ use mathlib.Core.List.{List, [], _∷_, _++_, append-nil, append-assoc}
 use native.Mathlib.Omega.{arith}
 use native.Mathlib.Numerals.{add-one}
 use lib.Dec.{leb}
-use lib.ListN.{length, drop, length-append}
+use lib.ListN.{length, getD, drop, length-append}
 use lib.Seq.{take-at, drop-append-add, drop-drop}
 use borrow.Rule.Slice.PartMut.{midOf, putMid, post-is, mid-len}
 use Rattle.laws.specs.Lists.{tabFrom, tab}
@@ -18,7 +18,12 @@ use Rattle.rules.specs.Sizes.{maxFaults}
 use Rattle.rules.specs.State.{faultAt}
 use Rattle.rules.specs.Access.{faultBytes, bytesOf}
 use Rattle.fault_records.proofs.Laws.{length-fault, fault-whole}
 use Rattle.effects.specs.Flat.{fetchBytes}
+
+-- the fault at a place of the four arrays
+abbrev pub faultIn : List ℕ → List ℕ → List ℕ → List ℕ → ℕ → Fault
+faultIn reasons flags sources addresses i =
+    record { reason = getD reasons i 0; flags = getD flags i 0; endpoint = record { 0 = getD sources i 0 }; address = getD addresses i 0 }
 
 -- the bytes of j faults, and then those that were there
 abbrev pub written : (ℕ → Fault) → ℕ → List ℕ → List ℕ
