@@ -1,6 +1,5 @@
 pub mod Flat
-pub mod Outcome
-pub mod Serve
+pub mod Requesting
 pub mod Replied
 pub mod Checks
 pub mod Setting

@@ -15,5 +15,8 @@ pub fn reset(s: State, t: &mut [u64], g: Guest) -> State
 {
     let next = resets::clear_guest(s, g);
     let low = (g.0 as u64) * DOMAIN_SPAN;
-    crate::remove(next, t, low, low + LAST_DOMAIN, 0, TOP_ADDRESS)
+    let kept = removal::remove(t, next.live, low, low + LAST_DOMAIN, 0, TOP_ADDRESS);
+    let mut after = next;
+    after.live = kept;
+    after
 }
