@@ -7,9 +7,7 @@ pub mod Requested
 pub mod Turns
 pub mod Stepped
 pub mod Answered
-pub mod Mapped
 pub mod Entries
-pub mod Cases
 pub mod Started
 pub mod Resetting
 pub mod Fetching

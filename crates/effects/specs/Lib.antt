@@ -1,7 +1,6 @@
 pub mod Flat
 pub mod Translating
-pub mod Outcome
-pub mod Serve
+pub mod Requesting
 pub mod Replied
 pub mod Checks
 pub mod Setting
