@@ -7,7 +7,6 @@ ghost use Rattle.state.specs.Fields.{withLogs, withEndpoints};
 ghost use Rattle.effects.specs.Flat.{device};
 ghost use Rattle.effects.specs.Resetting.{resetAnswer, logsReset, domainsReset};
 ghost use Rattle.effects.specs.Replied.{replied};
-use effects::Checked;
 use effects::Given;
 use effects::Performed;
 use rules::Answer;
@@ -19,6 +18,7 @@ use rules::sizes::FAULT_PLACES;
 use rules::sizes::MAX_ENDPOINTS;
 use rules::sizes::MAX_GUESTS;
 use rules::sizes::TOP_ADDRESS;
+use soundness::Checked;
 
 // The highest domain number.
 const LAST_DOMAIN: u64 = DOMAIN_SPAN - 1;
@@ -64,14 +64,30 @@ pub fn reset_guest<'a>(
 pub fn reset(s: State, t: &mut [u64], g: Guest) -> Given
     ensures { λ r. ⌜ replied r [] (now (t .exit)) ≡ rules.step (device s (now (t .entry))) (rules.of-guest g rules.reset) ⌝ }
 {
-    let test = checks::check_job(s, t, g);
+    let settings = s.settings;
+    let test = soundness::check_job(
+        settings,
+        s.listed,
+        s.live,
+        &s.endpoints,
+        &s.owners,
+        &s.attached,
+        &s.domains,
+        &s.logged,
+        &s.lost,
+        &s.reasons,
+        &s.flags,
+        &s.sources,
+        &s.addresses,
+        t,
+        g,
+    );
     if let Checked::Refused(e) = test {
         return Given {
             answer: Answer::Refused(e),
             state: s,
         };
     }
-    let settings = s.settings;
     let mut attached = s.attached;
     let mut domains = s.domains;
     let mut logged = s.logged;

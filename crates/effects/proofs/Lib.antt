@@ -7,7 +7,6 @@ pub mod Requested
 pub mod Turns
 pub mod Stepped
 pub mod Answered
-pub mod Entries
 pub mod Started
 pub mod Resetting
 pub mod Fetching

@@ -1,6 +1,5 @@
 // What a call does on the state and the lent words, and what it gives back. There is no function here.
 use rules::Answer;
-use rules::Refusal;
 use rules::State;
 
 // What a call gives back: its answer, and the next state.
@@ -19,10 +18,4 @@ pub struct Performed {
 pub struct Handled {
     pub status: u8,
     pub live: usize,
-}
-
-// What the test before a guest's job gives: the job may be worked, or is refused.
-pub enum Checked {
-    Passed,
-    Refused(Refusal),
 }

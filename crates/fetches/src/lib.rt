@@ -8,7 +8,6 @@ ghost use Rattle.state.specs.Fields.{withLogs};
 ghost use Rattle.effects.specs.Flat.{device};
 ghost use Rattle.effects.specs.Fetching.{fetchFlat};
 ghost use Rattle.effects.specs.Replied.{replied};
-use effects::Checked;
 use effects::Given;
 use rules::Answer;
 use rules::Guest;
@@ -18,6 +17,7 @@ use rules::sizes::FAULT_PLACES;
 use rules::sizes::FAULT_SIZE;
 use rules::sizes::MAX_FAULTS;
 use rules::sizes::MAX_GUESTS;
+use soundness::Checked;
 use state::least;
 
 // A guest's oldest faults, as many as are held and fit whole into the buffer, which then go; a guest that is none of so many is refused,
@@ -55,14 +55,30 @@ pub fn fetch_faults<'a>(
 pub fn fetch(s: State, t: &[u64], g: Guest, buffer: &mut [u8]) -> Given
     ensures { λ r. ⌜ replied r (now (buffer .exit)) (now (t .entry)) ≡ rules.step (device s (now (t .entry))) (rules.of-guest g (rules.fetch (now (buffer .entry)))) ⌝ }
 {
-    let test = checks::check_job(s, t, g);
+    let settings = s.settings;
+    let test = soundness::check_job(
+        settings,
+        s.listed,
+        s.live,
+        &s.endpoints,
+        &s.owners,
+        &s.attached,
+        &s.domains,
+        &s.logged,
+        &s.lost,
+        &s.reasons,
+        &s.flags,
+        &s.sources,
+        &s.addresses,
+        t,
+        g,
+    );
     if let Checked::Refused(e) = test {
         return Given {
             answer: Answer::Refused(e),
             state: s,
         };
     }
-    let settings = s.settings;
     let mut logged = s.logged;
     let mut reasons = s.reasons;
     let mut flags = s.flags;

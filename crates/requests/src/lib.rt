@@ -6,7 +6,6 @@ ghost use Rattle.state.specs.Fields.{withSettings, withEndpoints};
 ghost use Rattle.effects.specs.Flat.{device, worked};
 ghost use Rattle.effects.specs.Requesting.{handled, requestFlat};
 ghost use Rattle.effects.specs.Replied.{replied};
-use effects::Checked;
 use effects::Given;
 use effects::Handled;
 use effects::Performed;
@@ -20,6 +19,7 @@ use rules::State;
 use rules::requests::DEVERR;
 use rules::sizes::MAX_ENDPOINTS;
 use rules::sizes::STATUS_SIZE;
+use soundness::Checked;
 
 // What the handler of a request's type gives; a refused request has none.
 fn handle<'a>(
@@ -151,7 +151,24 @@ pub fn serve<'a>(
 pub fn request(s: State, t: &mut [u64], g: Guest, readable: &[u8], writable: &mut [u8]) -> Given
     ensures { λ r. ⌜ replied r (now (writable .exit)) (now (t .exit)) ≡ rules.step (device s (now (t .entry))) (rules.of-guest g (rules.request (now (readable .entry)) (now (writable .entry)))) ⌝ }
 {
-    let test = checks::check_job(s, t, g);
+    let settings = s.settings;
+    let test = soundness::check_job(
+        settings,
+        s.listed,
+        s.live,
+        &s.endpoints,
+        &s.owners,
+        &s.attached,
+        &s.domains,
+        &s.logged,
+        &s.lost,
+        &s.reasons,
+        &s.flags,
+        &s.sources,
+        &s.addresses,
+        t,
+        g,
+    );
     if let Checked::Refused(e) = test {
         return Given {
             answer: Answer::Refused(e),
@@ -161,7 +178,7 @@ pub fn request(s: State, t: &mut [u64], g: Guest, readable: &[u8], writable: &mu
     let mut attached = s.attached;
     let mut domains = s.domains;
     let x = serve(
-        s.settings,
+        settings,
         s.listed,
         s.live,
         &s.endpoints,
