@@ -3,14 +3,19 @@ ghost use mathlib.Core.Path.{_≡_};
 ghost use Prim.Native.Nat.{_+_};
 ghost use lib.ListN.{getD};
 ghost use Rattle.rules.specs.declared.Answer.the-variants.{Blocked};
+ghost use Rattle.rules.specs.declared.State.{State};
 ghost use Rattle.rules.specs.Access.{flagFor, reasonOf, faultOf};
+ghost use Rattle.rules.specs.Sound.{guest};
+ghost use Rattle.state.specs.Fields.{withLists, withLogs};
 ghost use Rattle.effects.specs.Flat.{afterAccess};
+use logging::log_fault;
 use rules::Access;
 use rules::Cause;
-ghost use Rattle.rules.specs.Sound.{guest};
 use rules::Fault;
 use rules::Guest;
-use rules::State;
+use rules::sizes::FAULT_PLACES;
+use rules::sizes::MAX_ENDPOINTS;
+use rules::sizes::MAX_GUESTS;
 
 // The flags of a read's fault, READ 1 and ADDRESS 256.
 const READ_FLAGS: u32 = 257;
@@ -60,11 +65,24 @@ fn owner_at(owners: &[u8], i: usize) -> Guest
     Guest(0)
 }
 
-// The state with the fault of a blocked access logged for its endpoint's owner.
-pub(crate) fn log_blocked(s: State, a: Access, cause: Cause) -> State
-    ensures { λ r. ⌜ r ≡ afterAccess s a (Blocked cause) ⌝ }
+// The fault of a blocked access, logged for its endpoint's owner.
+pub(crate) fn report_fault<'a>(
+    listed: usize,
+    endpoints: &'a [u32; MAX_ENDPOINTS],
+    owners: &'a [u8; MAX_ENDPOINTS],
+    logged: &'a mut [usize; MAX_GUESTS],
+    lost: &'a mut [u32; MAX_GUESTS],
+    reasons: &'a mut [u8; FAULT_PLACES],
+    flags: &'a mut [u32; FAULT_PLACES],
+    sources: &'a mut [u32; FAULT_PLACES],
+    addresses: &'a mut [u64; FAULT_PLACES],
+    a: Access,
+    cause: Cause,
+)
+    ensures { λ _. ⌜ ((s : State) → withLists listed (now (endpoints .entry)) (now (owners .entry)) (withLogs (now (logged .exit)) (now (lost .exit)) (now (reasons .exit)) (now (flags .exit)) (now (sources .exit)) (now (addresses .exit)) s) ≡ afterAccess (withLists listed (now (endpoints .entry)) (now (owners .entry)) (withLogs (now (logged .entry)) (now (lost .entry)) (now (reasons .entry)) (now (flags .entry)) (now (sources .entry)) (now (addresses .entry)) s)) a (Blocked cause)) ⌝ }
 {
-    let i = attachments::place_of(s.listed, &s.endpoints, a.endpoint);
-    let owner = owner_at(&s.owners, i);
-    logging::log_fault(s, owner, fault_of(cause, a))
+    let i = attachments::place_of(listed, endpoints, a.endpoint);
+    let owner = owner_at(owners, i);
+    let f = fault_of(cause, a);
+    log_fault(logged, lost, reasons, flags, sources, addresses, owner, f);
 }

@@ -3,9 +3,9 @@ use Prim.Native.Nat.{ℕ, _+_, _-_, _/_, _%_}
 use mathlib.Core.Bool.{cond}
 use mathlib.Core.List.{List}
 use lib.Dec.{ltb, eqb}
-use lib.ListN.{getD, set}
+use lib.ListN.{length, getD, set}
 use Rattle.laws.specs.Lists.{tab}
-use Rattle.rules.specs.Sizes.{maxFaults, faultPlaces}
+use Rattle.rules.specs.Sizes.{maxGuests, maxFaults}
 use Rattle.rules.specs.declared.Guest.{Guest}
 use Rattle.rules.specs.declared.State.{State}
 use Rattle.state.specs.Fields.{withCounts, withFaults}
@@ -16,10 +16,12 @@ unfoldable pub shifted : Guest → ℕ → List ℕ → ℕ → ℕ
 shifted g k l i = cond (eqb (i / maxFaults) (g .0)) (cond (ltb (i % maxFaults + k) maxFaults) (getD l (i + k) 0) 0) (getD l i 0)
 
 abbrev pub shiftedAll : Guest → ℕ → List ℕ → List ℕ
-shiftedAll g k l = tab faultPlaces (shifted g k l)
+shiftedAll g k l = tab (length l) (shifted g k l)
 
--- guest g's k oldest faults gone
+-- guest g's k oldest faults gone; nothing for a guest number that has no place
 unfoldable pub faultsDropped : State → Guest → ℕ → State
 faultsDropped s g k =
-    withCounts (set (s .logged) (g .0) (getD (s .logged) (g .0) 0 - k)) (s .lost)
-    (withFaults (shiftedAll g k (s .reasons)) (shiftedAll g k (s .flags)) (shiftedAll g k (s .sources)) (shiftedAll g k (s .addresses)) s)
+    cond (ltb (g .0) maxGuests)
+    (withCounts (set (s .logged) (g .0) (getD (s .logged) (g .0) 0 - k)) (s .lost)
+    (withFaults (shiftedAll g k (s .reasons)) (shiftedAll g k (s .flags)) (shiftedAll g k (s .sources)) (shiftedAll g k (s .addresses)) s))
+    s

@@ -2,22 +2,24 @@
 ghost use mathlib.Core.Path.{_≡_};
 ghost use Prim.Native.Nat.{_<_};
 ghost use Rattle.rules.specs.Sizes.{maxGuests};
-ghost use Rattle.state.specs.Fields.{withFaults};
 ghost use Rattle.dropping.specs.Changes.{shiftedAll};
 use rules::Guest;
-use rules::State;
+use rules::sizes::FAULT_PLACES;
 use rules::sizes::MAX_FAULTS;
 
-// The state with the k oldest faults of guest g gone from the fault records: each of its places takes what stands k places on, or zero
+// The k oldest faults of guest g go from the fault records: each of its places takes what stands k places on, or zero
 // where that is past its last place.
-pub(crate) fn shift_faults(s: State, g: Guest, k: usize) -> State
+pub(crate) fn shift_faults<'a>(
+    reasons: &'a mut [u8; FAULT_PLACES],
+    flags: &'a mut [u32; FAULT_PLACES],
+    sources: &'a mut [u32; FAULT_PLACES],
+    addresses: &'a mut [u64; FAULT_PLACES],
+    g: Guest,
+    k: usize,
+)
     requires { ⌜ g .0 < maxGuests ⌝ }
-    ensures { λ r. ⌜ r ≡ withFaults (shiftedAll g k (s .reasons)) (shiftedAll g k (s .flags)) (shiftedAll g k (s .sources)) (shiftedAll g k (s .addresses)) s ⌝ }
+    ensures { λ _. ⌜ (now (reasons .exit) ≡ shiftedAll g k (now (reasons .entry))) × (now (flags .exit) ≡ shiftedAll g k (now (flags .entry))) × (now (sources .exit) ≡ shiftedAll g k (now (sources .entry))) × (now (addresses .exit) ≡ shiftedAll g k (now (addresses .entry))) ⌝ }
 {
-    let mut reasons = s.reasons;
-    let mut flags = s.flags;
-    let mut sources = s.sources;
-    let mut addresses = s.addresses;
     let guest = g.0 as usize;
     let first = MAX_FAULTS * guest;
     let end = first + MAX_FAULTS;
@@ -35,10 +37,4 @@ pub(crate) fn shift_faults(s: State, g: Guest, k: usize) -> State
             addresses[i] = 0;
         }
     }
-    let mut next = s;
-    next.reasons = reasons;
-    next.flags = flags;
-    next.sources = sources;
-    next.addresses = addresses;
-    next
 }

@@ -7,8 +7,6 @@ pub mod Requested
 pub mod Turns
 pub mod Stepped
 pub mod Answered
-pub mod Mapped
-pub mod Decided
-pub mod Entries
-pub mod Cases
 pub mod Started
+pub mod Resetting
+pub mod Fetching

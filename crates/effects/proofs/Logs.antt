@@ -1,5 +1,5 @@
 -- Changes of the fault arrays that a world wrote are those that the changed world writes.
-use Prim.Native.Nat.{ℕ, suc, _+_, _-_, _*_, _/_, _%_, _≤_, _<_}
+use Prim.Native.Nat.{ℕ, suc, _+_, _-_, _*_, _/_, _%_, _≤_, _<_, min}
 use mathlib.Core.Path.{_≡_, refl, sym, ap, _∙_}
 use mathlib.Core.Bool.{Bool, true, false, cond, _&&_}
 use mathlib.Core.List.{List, [], _∷_, _++_}
@@ -8,9 +8,9 @@ use native.Mathlib.Omega.{arith}
 use lib.Dec.{ltb, eqb}
 use lib.ListN.{length, getD, set, drop, replicate, length-append, length-drop, List·getD-eq-default, List·getD-append}
 use lib.Seq.{getD-set-same, getD-set-other, getD-drop, getD-append-seam, set-getD}
-use borrow.Author.Tests.{ltb-true, ltb-false, eqb-true, eqb-false, le-ltb}
+use borrow.Author.Tests.{ltb-true, ltb-false, eqb-true, eqb-false, lt-ltb, le-ltb}
 use Rattle.laws.specs.Lists.{tab, weaveBy, pickBy}
-use Rattle.laws.proofs.Tables.{getD-tab, tab-same}
+use Rattle.laws.proofs.Tables.{length-tab, getD-tab, tab-same}
 use Rattle.laws.proofs.Owners.{length-weave}
 use Rattle.rules.specs.declared.Fault.{Fault}
 use Rattle.rules.specs.Sizes.{maxGuests, maxEndpoints, maxFaults, maxLost, faultPlaces}
@@ -24,7 +24,7 @@ use Rattle.rules.proofs.Worlds.{Whole}
 use Rattle.state.specs.Fields.{withCounts}
 use Rattle.logging.specs.Changes.{faultStored, faultLogged}
 use Rattle.dropping.specs.Changes.{shifted, shiftedAll, faultsDropped}
-use Rattle.resets.specs.Changes.{zeroOf, zeroedOf, guestCleared}
+use Rattle.resets.specs.Changes.{zeroOf, zeroedOf, endpointsDetached, logCleared, guestCleared}
 use Rattle.effects.proofs.Places.{all-detached}
 use Rattle.effects.proofs.Written.{withAtts, withLogs, set-tab}
 
@@ -145,7 +145,7 @@ module _ (c : Config) (w : World) (h : Whole c w) (g : ℕ) (m : g < c .settings
   unchanged = rw (set-getD (w .logs) g noLog)
 
   pub logged-written : (f : Fault) → faultLogged (stateOf c w) (guest g) f ≡ stateOf c (withLogs (set (w .logs) g (logged f (logOf w g))) w)
-  logged-written f = unfold faultLogged logged in (rw (count-is, lost-is) (go (ltb (length (logOf w g .faults)) maxFaults) refl (ltb (logOf w g .lost) maxLost) refl))
+  logged-written f = unfold faultLogged logged in (rw (lt-ltb g maxGuests few, count-is, lost-is) (go (ltb (length (logOf w g .faults)) maxFaults) refl (ltb (logOf w g .lost) maxLost) refl))
     where
       go : (a : Bool) → ltb (length (logOf w g .faults)) maxFaults ≡ a → (b : Bool) → ltb (logOf w g .lost) maxLost ≡ b
           → cond a (withCounts (set (stateOf c w .logged) g (suc (length (logOf w g .faults)))) (stateOf c w .lost) (faultStored (stateOf c w) (maxFaults * g + length (logOf w g .faults)) f))
@@ -160,7 +160,7 @@ module _ (c : Config) (w : World) (h : Whole c w) (g : ℕ) (m : g < c .settings
   pub dropped-written : (k : ℕ) → faultsDropped (stateOf c w) (guest g) k ≡ stateOf c (withLogs (set (w .logs) g (fetchedFrom k (logOf w g))) w)
   dropped-written k =
       unfold faultsDropped fetchedFrom in
-      (rw count-is (unfold stateOf in
+      (rw (lt-ltb g maxGuests few, count-is) (unfold stateOf in
       (rw (
         by-guest w g rest there (λ l. length (l .faults)) (length (logOf w g .faults) - k) (length-drop k (logOf w g .faults)),
         by-guest-same w g rest there (λ l. l .lost) refl,
@@ -174,7 +174,7 @@ module _ (c : Config) (w : World) (h : Whole c w) (g : ℕ) (m : g < c .settings
       rest = record { faults = drop k (logOf w g .faults); lost = logOf w g .lost }
 
       fewer : (q : Fault → ℕ) → q noFault ≡ 0 → shiftedAll (guest g) k (tab faultPlaces (λ i. q (faultPlaced w i))) ≡ tab faultPlaces (λ i. q (faultPlaced (next w g rest there) i))
-      fewer q z = tab-same faultPlaces _ _ (λ i l. unfold shifted in go i l (eqb (i / maxFaults) g) refl (ltb (i % maxFaults + k) maxFaults) refl)
+      fewer q z = rw (length-tab faultPlaces (λ i. q (faultPlaced w i))) (tab-same faultPlaces _ _ (λ i l. unfold shifted in go i l (eqb (i / maxFaults) g) refl (ltb (i % maxFaults + k) maxFaults) refl))
         where
           all : List ℕ
           all = tab faultPlaces (λ i. q (faultPlaced w i))
@@ -196,7 +196,7 @@ module _ (c : Config) (w : World) (h : Whole c w) (g : ℕ) (m : g < c .settings
   -- A GUEST CLEARED
 
   cleared-faults : (q : Fault → ℕ) → q noFault ≡ 0 → shiftedAll (guest g) maxFaults (tab faultPlaces (λ i. q (faultPlaced w i))) ≡ tab faultPlaces (λ i. q (faultPlaced (next w g noLog there) i))
-  cleared-faults q z = tab-same faultPlaces _ _ (λ i l. unfold shifted in go i l (eqb (i / maxFaults) g) refl)
+  cleared-faults q z = rw (length-tab faultPlaces (λ i. q (faultPlaced w i))) (tab-same faultPlaces _ _ (λ i l. unfold shifted in go i l (eqb (i / maxFaults) g) refl))
     where
       go : (i : ℕ) → i < faultPlaces → (a : Bool) → eqb (i / maxFaults) g ≡ a
           → cond a (cond (ltb (i % maxFaults + maxFaults) maxFaults) (getD (tab faultPlaces (λ i. q (faultPlaced w i))) (i + maxFaults) 0) 0) (getD (tab faultPlaces (λ i. q (faultPlaced w i))) i 0) ≡ q (faultPlaced (next w g noLog there) i)
@@ -204,10 +204,15 @@ module _ (c : Config) (w : World) (h : Whole c w) (g : ℕ) (m : g < c .settings
       go i l false x = getD-tab faultPlaces (λ j. q (faultPlaced w j)) i 0 l ∙ ap q (sym (other-place w g noLog there i (eqb-false _ g x)))
 
   cleared-places : (q : Attachment → ℕ) → q none ≡ 0
-      → zeroedOf (length (c .endpoints)) (guest g) (tab maxEndpoints (λ i. getD (c .owners) i 0)) (tab maxEndpoints (λ i. q (getD (w .attachments) i none)))
+      → zeroedOf (min (length (c .endpoints)) maxEndpoints) (guest g) (tab maxEndpoints (λ i. getD (c .owners) i 0)) (tab maxEndpoints (λ i. q (getD (w .attachments) i none)))
       ≡ tab maxEndpoints (λ i. q (getD (weaveBy g (c .owners) (w .attachments) (replicate (length (pickBy g (c .owners) (w .attachments))) none)) i none))
-  cleared-places q z = tab-same maxEndpoints _ _ (λ i l. unfold zeroOf in (rw (getD-tab maxEndpoints (λ j. getD (c .owners) j 0) i 0 l, getD-tab maxEndpoints (λ j. q (getD (w .attachments) j none)) i 0 l) (go i (ltb i (length (c .endpoints))) refl)))
+  cleared-places q z =
+      rw (placed, length-tab maxEndpoints (λ i. q (getD (w .attachments) i none)))
+      (tab-same maxEndpoints _ _ (λ i l. unfold zeroOf in (rw (getD-tab maxEndpoints (λ j. getD (c .owners) j 0) i 0 l, getD-tab maxEndpoints (λ j. q (getD (w .attachments) j none)) i 0 l) (go i (ltb i (length (c .endpoints))) refl))))
     where
+      placed : min (length (c .endpoints)) maxEndpoints ≡ length (c .endpoints)
+      placed = omega (arith, good-facts c (h .config) .few)
+
       size : length (w .attachments) ≡ length (c .endpoints)
       size = h .attachments ∙ sym (good-facts c (h .config) .sizes)
 
@@ -226,8 +231,9 @@ module _ (c : Config) (w : World) (h : Whole c w) (g : ℕ) (m : g < c .settings
 
   pub cleared-written : guestCleared (stateOf c w) (guest g) ≡ stateOf c (withAtts (weaveBy g (c .owners) (w .attachments) (replicate (length (pickBy g (c .owners) (w .attachments))) none)) (withLogs (set (w .logs) g noLog) w))
   cleared-written =
-      unfold guestCleared stateOf in
+      unfold guestCleared endpointsDetached logCleared stateOf in
       (rw (
+        lt-ltb g maxGuests few,
         cleared-places flagOf refl,
         cleared-places numberOf refl,
         by-guest w g noLog there (λ l. length (l .faults)) 0 refl,

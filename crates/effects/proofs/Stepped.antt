@@ -1,17 +1,20 @@
 -- Each call on sound state and table, as the device's step has it, is what the arrays and words give.
-use Prim.Native.Nat.{ℕ, _-_, _<_}
-use mathlib.Core.Path.{_≡_, refl, sym, ap, _∙_}
-use mathlib.Core.Bool.{Bool, true, false, cond}
+use Prim.Native.Nat.{ℕ, _<_, _≤_}
+use native.Mathlib.Omega.{arith}
+use mathlib.Core.Path.{_≡_, refl, sym, ap, subst, _∙_}
+use mathlib.Core.Bool.{Bool, true, false, cond, _&&_}
 use mathlib.Core.List.{List, [], _∷_}
-use mathlib.Core.Option.{some, none}
+use mathlib.Core.Option.{Option, some, none}
 use lib.Dec.{ltb, eqb}
 use lib.ListN.{length}
-use borrow.Author.Tests.{ltb-true}
+use borrow.Author.Tests.{ltb-true, lt-ltb}
 use Rattle.laws.specs.Lists.{firstFailing}
+use Rattle.laws.proofs.Tests.{both}
 use Rattle.rules.specs.declared.Guest.{Guest}
 use Rattle.rules.specs.declared.Answer.the-variants.{Done, Served, Refused}
 use Rattle.rules.specs.declared.Refusal.{Refusal}
-use Rattle.rules.specs.declared.Refusal.the-variants.{UnknownType}
+use Rattle.rules.specs.declared.Refusal.the-variants.{NoSuchGuest, UnknownType}
+use Rattle.rules.specs.Sizes.{maxGuests, topAddress}
 use Rattle.rules.specs.Configuration.{Config}
 use Rattle.rules.specs.State.{World, Device, configOf, read, write}
 use Rattle.rules.specs.Guests.{Own, Part, own, part, replace}
@@ -20,14 +23,15 @@ use Rattle.rules.specs.Handlers.{handleAttach, handleDetach, handleMap, handleU
 use Rattle.rules.specs.Sound.{sound}
 use Rattle.rules.specs.Device.{request, reset, of-guest, requested, jobRule, rule, caller, work, step}
 use Rattle.rules.specs.Device as rules
-use Rattle.rules.proofs.Reading.{sound-whole}
+use Rattle.rules.proofs.Reading.{sound-good, sound-whole}
+use Rattle.rules.proofs.Groups.{sound-facts}
 use Rattle.rules.specs.State.{Shaped}
 use Rattle.layouts.specs.Parsed.{asked, mapFields, unmapFields}
 use Rattle.layouts.specs.declared.request.Request.the-variants.{Attach, Detach, Map, Unmap}
 use Rattle.layouts.specs.declared.request.Request.the-variants as Q
-use Rattle.effects.specs.Flat.{Worked, worked, mapFlat, resetFlat}
-use Rattle.effects.specs.Serve.{recordOf, handled}
-use Rattle.rules.proofs.Refusals.{sound-step}
+use Rattle.effects.specs.Flat.{Worked, worked, mapPlaced, resetFlat}
+use Rattle.effects.specs.Requesting.{recordOf, handled, refusedFlat, unlessRefused, requestFlat}
+use Rattle.rules.proofs.Refusals.{no-such-guest, sound-step}
 use Rattle.rules.proofs.Unchanged.{replace-same, kept-is, written, still}
 use Rattle.effects.proofs.Requested.{attach-written, detach-written, map-written, unmap-written, reset-written}
 
@@ -62,10 +66,19 @@ module _ (d : Device) (h : sound d ≡ true) (k : Shaped (d .state)) where
     abbrev p : Part
     p = part (configOf (d .state)) g (read d)
 
-    map-here : (r : List ℕ) → mapFlat (write (configOf (d .state)) (read d)) g (domainField r) (recordOf g (domainField r) (mapFields r)) ≡ back (handleMap (own (configOf (d .state)) g) (part (configOf (d .state)) g (read d)) (domainField r) (askedFor (own (configOf (d .state)) g) r))
-    map-here r = unfold own in map-written (configOf (d .state)) (kept-is d h k) (read d) (sound-whole d h) g m (domainField r) (recordOf g (domainField r) (mapFields r)) refl
+    -- the guest and one record more have places
+    placed : (ltb (g .0) maxGuests && ltb (write (configOf (d .state)) (read d) .state .live) topAddress) ≡ true
+    placed =
+        let few : d .state .settings .guests ≤ maxGuests = unfold configOf in sound-good d h .guests .1 in
+        let one : g .0 < d .state .settings .guests = ltb-true (g .0) (d .state .settings .guests) l in
+        let live = sound-facts d h .frame .live in
+        subst (λ (e : Device). (ltb (g .0) maxGuests && ltb (e .state .live) topAddress) ≡ true) (written d h k)
+        (both (ltb (g .0) maxGuests) _ (lt-ltb (g .0) maxGuests (omega (arith, few, one))) (lt-ltb (d .state .live) topAddress (omega (arith, live))))
 
-    pub handle-step : (r : List ℕ) → handled d g (asked r) ≡ back (handle (own (configOf (d .state)) g) (part (configOf (d .state)) g (read d)) r)
+    map-here : (r : List ℕ) → mapPlaced (write (configOf (d .state)) (read d)) g (domainField r) (recordOf g (domainField r) (mapFields r)) ≡ back (handleMap (own (configOf (d .state)) g) (part (configOf (d .state)) g (read d)) (domainField r) (askedFor (own (configOf (d .state)) g) r))
+    map-here r = unfold own mapPlaced in rw placed (map-written (configOf (d .state)) (kept-is d h k) (read d) (sound-whole d h) g m (domainField r) (recordOf g (domainField r) (mapFields r)) refl)
+
+    handle-step : (r : List ℕ) → handled d g (asked r) ≡ back (handle (own (configOf (d .state)) g) (part (configOf (d .state)) g (read d)) r)
     handle-step r = ap (λ (e : Device). handled e g (asked r)) (written d h k) ∙ unfold asked handle in go (eqb (typeOf r) ATTACH) (eqb (typeOf r) DETACH) (eqb (typeOf r) MAP) (eqb (typeOf r) UNMAP)
       where
         go : (t u v x : Bool)
@@ -78,14 +91,25 @@ module _ (d : Device) (h : sound d ≡ true) (k : Shaped (d .state)) where
         go false false false false = unfold handled in ap (λ (v : World). worked DEVERR (write (configOf (d .state)) v)) (sym (replace-same (configOf (d .state)) (read d) (sound-whole d h) g))
 
     -- a request that is refused, and one that is worked
-    pub refused-step : (r b : List ℕ) (a : Refusal) → firstFailing (requestRefusals r (length b)) ≡ some a → step d (of-guest g (request r b)) ≡ (record { answer = Refused a; buffer = b }, d)
+    refused-step : (r b : List ℕ) (a : Refusal) → firstFailing (requestRefusals r (length b)) ≡ some a → step d (of-guest g (request r b)) ≡ (record { answer = Refused a; buffer = b }, d)
     refused-step r b a f =
         sound-step d (of-guest g (request r b)) (unfold configOf in l) h
         ∙ unfold caller rules.performed work rule jobRule requested in
         rw f (ap (λ (e : Device). (record { answer = Refused a; buffer = b }, e)) (still d h k g (part (configOf (d .state)) g (read d)) refl))
 
-    pub served-step : (r b : List ℕ) → firstFailing (requestRefusals r (length b)) ≡ none → step d (of-guest g (request r b)) ≡ (record { answer = Served 4; buffer = handled d g (asked r) .status ∷ 0 ∷ 0 ∷ 0 ∷ [] }, handled d g (asked r) .left)
+    served-step : (r b : List ℕ) → firstFailing (requestRefusals r (length b)) ≡ none → step d (of-guest g (request r b)) ≡ (record { answer = Served 4; buffer = handled d g (asked r) .status ∷ 0 ∷ 0 ∷ 0 ∷ [] }, handled d g (asked r) .left)
     served-step r b f =
         sound-step d (of-guest g (request r b)) (unfold configOf in l) h
         ∙ unfold caller rules.performed work rule jobRule requested in
         rw f (ap (λ (x : Worked). (record { answer = Served 4; buffer = x .status ∷ 0 ∷ 0 ∷ 0 ∷ [] }, x .left)) (sym (handle-step r)))
+
+  -- a request on sound state and table is the device's step
+  pub request-step : (g : Guest) (r b : List ℕ) → requestFlat d g r b ≡ step d (of-guest g (request r b))
+  unfolding requestFlat
+  request-step g r b = go (ltb (g .0) (d .state .settings .guests)) refl (firstFailing (requestRefusals r (length b))) refl
+    where
+      go : (t : Bool) → ltb (g .0) (d .state .settings .guests) ≡ t → (m : Option Refusal) → firstFailing (requestRefusals r (length b)) ≡ m
+          → cond t (unlessRefused d g r b m) (refusedFlat d b NoSuchGuest) ≡ step d (of-guest g (request r b))
+      go false n m f = sym (no-such-guest d (of-guest g (request r b)) (unfold configOf in n))
+      go true l none f = unfold unlessRefused in sym (served-step g l r b f)
+      go true l (some a) f = unfold unlessRefused in sym (refused-step g l r b a f)

@@ -1,6 +1,7 @@
 pub mod Flat
-pub mod Outcome
-pub mod Serve
+pub mod Translating
+pub mod Requesting
 pub mod Replied
-pub mod Checks
 pub mod Setting
+pub mod Resetting
+pub mod Fetching

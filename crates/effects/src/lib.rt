@@ -1,6 +1,5 @@
-// What a call does on the by-value state and the lent words, and what it gives back. There is no function here.
+// What a call does on the state and the lent words, and what it gives back. There is no function here.
 use rules::Answer;
-use rules::Refusal;
 use rules::State;
 
 // What a call gives back: its answer, and the next state.
@@ -15,14 +14,8 @@ pub struct Performed {
     pub live: usize,
 }
 
-// A request's status, and the state that it leaves.
+// A request's status, and how many records are live after it.
 pub struct Handled {
     pub status: u8,
-    pub state: State,
-}
-
-// What the test before a guest's job gives: the job may be worked, or is refused.
-pub enum Checked {
-    Passed,
-    Refused(Refusal),
+    pub live: usize,
 }

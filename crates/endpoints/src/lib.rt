@@ -1,17 +1,18 @@
-// ATTACH and DETACH, on the state's arrays and the table's words.
+// ATTACH and DETACH, on lent arrays of the state and the table's words.
 ghost use mathlib.Core.Path.{_≡_};
 ghost use mathlib.Core.Bool.{_&&_};
 ghost use lib.Dec.{ltb, eqb};
 ghost use lib.ListN.{getD};
 ghost use Rattle.rules.specs.Handlers.{statusOf, outside, attachChain, detachChain};
-ghost use Rattle.effects.specs.Flat.{device, attachStatus, attachFlat, detachStatus, detachFlat};
-ghost use Rattle.effects.specs.Outcome.{outcome};
+ghost use Rattle.rules.specs.declared.State.{State};
+ghost use Rattle.state.specs.Fields.{withSettings, withLists, withEndpoints};
+ghost use Rattle.effects.specs.Flat.{device, worked, attachStatus, attachFlat, detachStatus, detachFlat};
 use effects::Handled;
 use rules::Domain;
 use rules::DomainRange;
 use rules::Endpoint;
 use rules::Guest;
-use rules::State;
+use rules::Settings;
 use rules::requests::INVAL;
 use rules::requests::NOENT;
 use rules::requests::OK;
@@ -52,46 +53,63 @@ fn first_attach(reserved: bool, unlisted: bool, beyond: bool) -> u8
 }
 
 // The status of an ATTACH of the endpoint at place i.
-fn attach_status(s: State, g: Guest, d: Domain, i: usize, reserved: u64) -> u8
-    ensures { λ r. ⌜ r ≡ attachStatus s g d i reserved ⌝ }
+fn attach_status(
+    settings: Settings,
+    listed: usize,
+    owners: &[u8; MAX_ENDPOINTS],
+    g: Guest,
+    d: Domain,
+    i: usize,
+    reserved: u64,
+) -> u8
+    ensures { λ r. ⌜ ((s : State) → r ≡ attachStatus (withSettings settings (withLists listed (s .endpoints) (now (owners .entry)) s)) g d i reserved) ⌝ }
 {
-    let settings = s.settings;
-    let owned = owned_at(s.listed, &s.owners, g, i);
+    let owned = owned_at(listed, owners, g, i);
     let beyond = is_outside(settings.domains, d);
     first_attach(reserved != 0, !owned, beyond)
 }
 
 // ATTACH: the endpoint e to domain d.
-pub fn handle_attach(
-    s: State,
-    t: &mut [u64],
+pub fn handle_attach<'a>(
+    settings: Settings,
+    listed: usize,
+    live: usize,
+    endpoints: &'a [u32; MAX_ENDPOINTS],
+    owners: &'a [u8; MAX_ENDPOINTS],
+    attached: &'a mut [u8; MAX_ENDPOINTS],
+    domains: &'a mut [u32; MAX_ENDPOINTS],
+    t: &'a mut [u64],
     g: Guest,
     d: Domain,
     e: Endpoint,
     reserved: u64,
 ) -> Handled
-    ensures { λ r. ⌜ outcome r (now (t .exit)) ≡ attachFlat (device s (now (t .entry))) g d e reserved ⌝ }
+    ensures { λ r. ⌜ ((s : State) → worked (r .status) (device (withSettings settings (withEndpoints listed (now (endpoints .entry)) (now (owners .entry)) (now (attached .exit)) (now (domains .exit)) (r .live) s)) (now (t .exit))) ≡ attachFlat (device (withSettings settings (withEndpoints listed (now (endpoints .entry)) (now (owners .entry)) (now (attached .entry)) (now (domains .entry)) live s)) (now (t .entry))) g d e reserved) ⌝ }
 {
-    let i = attachments::place_of(s.listed, &s.endpoints, e);
-    let status = attach_status(s, g, d, i, reserved);
+    let i = attachments::place_of(listed, endpoints, e);
+    let status = attach_status(settings, listed, owners, g, d, i, reserved);
     if status != OK {
-        return Handled { status, state: s };
+        return Handled { status, live };
     }
-    let next = moves::move_to(s, t, g, i, d);
+    let kept = moves::move_to(live, owners, attached, domains, t, g, i, d);
     Handled {
         status: OK,
-        state: next,
+        live: kept,
     }
 }
 
 // Whether the endpoint at place i is attached to domain d.
-fn is_in(s: State, i: usize, d: Domain) -> bool
-    ensures { λ r. ⌜ r ≡ eqb (getD (s .attached) i 0) 1 && eqb (getD (s .domains) i 0) (d .0) ⌝ }
+fn is_in<'a>(
+    attached: &'a [u8; MAX_ENDPOINTS],
+    domains: &'a [u32; MAX_ENDPOINTS],
+    i: usize,
+    d: Domain,
+) -> bool
+    ensures { λ r. ⌜ r ≡ eqb (getD (now (attached .entry)) i 0) 1 && eqb (getD (now (domains .entry)) i 0) (d .0) ⌝ }
 {
-    if MAX_ENDPOINTS <= i {
-        return false;
-    }
-    (s.attached[i] == 1) & (s.domains[i] == d.0)
+    let flag = attachments::flag_at(attached, i);
+    let domain = attachments::domain_at(domains, i);
+    (flag == 1) & (domain.0 == d.0)
 }
 
 // The status of DETACH, by what its steps' tests give.
@@ -111,33 +129,47 @@ fn first_detach(reserved: bool, unlisted: bool, elsewhere: bool) -> u8
 }
 
 // The status of a DETACH of the endpoint at place i.
-fn detach_status(s: State, g: Guest, d: Domain, i: usize, reserved: u64) -> u8
-    ensures { λ r. ⌜ r ≡ detachStatus s g d i reserved ⌝ }
+fn detach_status<'a>(
+    listed: usize,
+    owners: &'a [u8; MAX_ENDPOINTS],
+    attached: &'a [u8; MAX_ENDPOINTS],
+    domains: &'a [u32; MAX_ENDPOINTS],
+    g: Guest,
+    d: Domain,
+    i: usize,
+    reserved: u64,
+) -> u8
+    ensures { λ r. ⌜ ((s : State) → r ≡ detachStatus (withEndpoints listed (s .endpoints) (now (owners .entry)) (now (attached .entry)) (now (domains .entry)) (s .live) s) g d i reserved) ⌝ }
 {
-    let owned = owned_at(s.listed, &s.owners, g, i);
-    let there = is_in(s, i, d);
+    let owned = owned_at(listed, owners, g, i);
+    let there = is_in(attached, domains, i, d);
     first_detach(reserved != 0, !owned, !there)
 }
 
 // DETACH: the endpoint e from domain d.
-pub fn handle_detach(
-    s: State,
-    t: &mut [u64],
+pub fn handle_detach<'a>(
+    listed: usize,
+    live: usize,
+    endpoints: &'a [u32; MAX_ENDPOINTS],
+    owners: &'a [u8; MAX_ENDPOINTS],
+    attached: &'a mut [u8; MAX_ENDPOINTS],
+    domains: &'a mut [u32; MAX_ENDPOINTS],
+    t: &'a mut [u64],
     g: Guest,
     d: Domain,
     e: Endpoint,
     reserved: u64,
 ) -> Handled
-    ensures { λ r. ⌜ outcome r (now (t .exit)) ≡ detachFlat (device s (now (t .entry))) g d e reserved ⌝ }
+    ensures { λ r. ⌜ ((s : State) → worked (r .status) (device (withEndpoints listed (now (endpoints .entry)) (now (owners .entry)) (now (attached .exit)) (now (domains .exit)) (r .live) s) (now (t .exit))) ≡ detachFlat (device (withEndpoints listed (now (endpoints .entry)) (now (owners .entry)) (now (attached .entry)) (now (domains .entry)) live s) (now (t .entry))) g d e reserved) ⌝ }
 {
-    let i = attachments::place_of(s.listed, &s.endpoints, e);
-    let status = detach_status(s, g, d, i, reserved);
+    let i = attachments::place_of(listed, endpoints, e);
+    let status = detach_status(listed, owners, attached, domains, g, d, i, reserved);
     if status != OK {
-        return Handled { status, state: s };
+        return Handled { status, live };
     }
-    let next = moves::leave(s, t, g, i, d);
+    let kept = moves::leave(live, owners, attached, domains, t, g, i, d);
     Handled {
         status: OK,
-        state: next,
+        live: kept,
     }
 }

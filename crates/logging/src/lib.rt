@@ -1,38 +1,47 @@
 // A fault logged for a guest, and the count of those that it lost.
 ghost use mathlib.Core.Path.{_≡_};
 ghost use lib.ListN.{getD};
+ghost use Rattle.rules.specs.declared.State.{State};
+ghost use Rattle.state.specs.Fields.{withLogs};
 ghost use Rattle.logging.specs.Changes.{faultLogged};
 use rules::Fault;
 use rules::Guest;
-use rules::State;
+use rules::sizes::FAULT_PLACES;
 use rules::sizes::MAX_FAULTS;
 use rules::sizes::MAX_GUESTS;
 use rules::sizes::MAX_LOST;
 
-// The state with a fault logged for a guest: in its log where there is room, else in its lost count.
-pub fn log_fault(s: State, g: Guest, f: Fault) -> State
-    ensures { λ r. ⌜ r ≡ faultLogged s g f ⌝ }
+// A fault logged for a guest: in its log where there is room, else in its lost count.
+pub fn log_fault<'a>(
+    logged: &'a mut [usize; MAX_GUESTS],
+    lost: &'a mut [u32; MAX_GUESTS],
+    reasons: &'a mut [u8; FAULT_PLACES],
+    flags: &'a mut [u32; FAULT_PLACES],
+    sources: &'a mut [u32; FAULT_PLACES],
+    addresses: &'a mut [u64; FAULT_PLACES],
+    g: Guest,
+    f: Fault,
+)
+    ensures { λ _. ⌜ ((s : State) → withLogs (now (logged .exit)) (now (lost .exit)) (now (reasons .exit)) (now (flags .exit)) (now (sources .exit)) (now (addresses .exit)) s ≡ faultLogged (withLogs (now (logged .entry)) (now (lost .entry)) (now (reasons .entry)) (now (flags .entry)) (now (sources .entry)) (now (addresses .entry)) s) g f) ⌝ }
 {
     let guest = g.0 as usize;
     if guest >= MAX_GUESTS {
-        return s;
+        return;
     }
-    let n = s.logged[guest];
-    let mut next = s;
+    let n = logged[guest];
     if n < MAX_FAULTS {
         let at = MAX_FAULTS * guest + n;
-        next.reasons[at] = f.reason;
-        next.flags[at] = f.flags;
-        next.sources[at] = f.endpoint.0;
-        next.addresses[at] = f.address;
-        next.logged[guest] = n + 1;
-        return next;
+        reasons[at] = f.reason;
+        flags[at] = f.flags;
+        sources[at] = f.endpoint.0;
+        addresses[at] = f.address;
+        logged[guest] = n + 1;
+        return;
     }
-    let k = s.lost[guest];
+    let k = lost[guest];
     if k < MAX_LOST {
-        next.lost[guest] = k + 1;
+        lost[guest] = k + 1;
     }
-    next
 }
 
 // A guest's lost count, 0 for a guest number that there is not.

@@ -1,22 +1,24 @@
-// MAP, on the state's arrays and the table's words.
+// MAP, on lent arrays of the state and the table's words.
 ghost use mathlib.Core.Path.{_≡_};
 ghost use mathlib.Core.List.{[], _∷_};
 ghost use Prim.Native.Nat.{_<_};
 ghost use Rattle.rules.specs.Sizes.{maxGuests};
 ghost use Rattle.rules.specs.Handlers.{statusOf, mapChain};
-ghost use Rattle.effects.specs.Flat.{device, mapStatus, mapPlaced};
-ghost use Rattle.effects.specs.Outcome.{outcome};
+ghost use Rattle.rules.specs.declared.State.{State};
+ghost use Rattle.state.specs.Fields.{withSettings, withDomains};
+ghost use Rattle.effects.specs.Flat.{device, worked, mapStatus, mapPlaced};
 use effects::Handled;
 use forms::form_status;
 use rules::Domain;
 use rules::Guest;
 use rules::Mapping;
-use rules::State;
+use rules::Settings;
 use rules::requests::DEVERR;
 use rules::requests::INVAL;
 use rules::requests::NOENT;
 use rules::requests::NOMEM;
 use rules::requests::OK;
+use rules::sizes::MAX_ENDPOINTS;
 use rules::sizes::MAX_GUESTS;
 
 // The places for guests, as a guest's number counts them.
@@ -49,46 +51,59 @@ fn wide(x: u32) -> usize
 }
 
 // The status of MAP for a guest, a domain and a record.
-fn map_status(s: State, t: &[u64], g: Guest, d: Domain, r: Mapping) -> u8
+fn map_status<'a>(
+    settings: Settings,
+    live: usize,
+    owners: &'a [u8; MAX_ENDPOINTS],
+    attached: &'a [u8; MAX_ENDPOINTS],
+    domains: &'a [u32; MAX_ENDPOINTS],
+    t: &'a [u64],
+    g: Guest,
+    d: Domain,
+    r: Mapping,
+) -> u8
     requires { ⌜ g .0 < maxGuests ⌝ }
-    ensures { λ x. ⌜ x ≡ mapStatus (device s (now (t .entry))) g d r ⌝ }
+    ensures { λ x. ⌜ ((s : State) → x ≡ mapStatus (device (withSettings settings (withDomains (now (owners .entry)) (now (attached .entry)) (now (domains .entry)) live s)) (now (t .entry))) g d r) ⌝ }
 {
-    let exists = attachments::domain_exists(&s.owners, &s.attached, &s.domains, g, d);
-    let settings = s.settings;
+    let exists = attachments::domain_exists(owners, attached, domains, g, d);
     let i = g.0 as usize;
     let first = settings.firsts[i];
     let last = settings.lasts[i];
     let form = form_status(settings.mask, settings.input, first, last, r);
-    let meets = overlaps::overlaps(t, s.live, r);
-    let held = holdings::held(t, s.live, g);
+    let meets = overlaps::overlaps(t, live, r);
+    let held = holdings::held(t, live, g);
     let limit = settings.shares[i];
     first_map(!exists, form != OK, form, meets, wide(limit) <= held)
 }
 
 // MAP for a guest: the record goes into the table where every step passes. It is a device error where the guest has no
 // place or one record more can't be counted, which a sound state rules out.
-pub fn handle_map(s: State, t: &mut [u64], g: Guest, d: Domain, r: Mapping) -> Handled
-    ensures { λ x. ⌜ outcome x (now (t .exit)) ≡ mapPlaced (device s (now (t .entry))) g d r ⌝ }
+pub fn handle_map<'a>(
+    settings: Settings,
+    live: usize,
+    owners: &'a [u8; MAX_ENDPOINTS],
+    attached: &'a [u8; MAX_ENDPOINTS],
+    domains: &'a [u32; MAX_ENDPOINTS],
+    t: &'a mut [u64],
+    g: Guest,
+    d: Domain,
+    r: Mapping,
+) -> Handled
+    ensures { λ x. ⌜ ((s : State) → worked (x .status) (device (withSettings settings (withDomains (now (owners .entry)) (now (attached .entry)) (now (domains .entry)) (x .live) s)) (now (t .exit))) ≡ mapPlaced (device (withSettings settings (withDomains (now (owners .entry)) (now (attached .entry)) (now (domains .entry)) live s)) (now (t .entry))) g d r) ⌝ }
 {
-    let live = s.live;
     if !((g.0 < GUEST_PLACES) & (live < usize::MAX)) {
         return Handled {
             status: DEVERR,
-            state: s,
+            live,
         };
     }
-    let status = map_status(s, t, g, d, r);
+    let status = map_status(settings, live, owners, attached, domains, t, g, d, r);
     if status != OK {
-        return Handled {
-            status: status,
-            state: s,
-        };
+        return Handled { status, live };
     }
     insertion::insert_mapping(t, live, r);
-    let mut next = s;
-    next.live = live + 1;
     Handled {
         status: OK,
-        state: next,
+        live: live + 1,
     }
 }

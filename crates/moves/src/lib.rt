@@ -1,13 +1,11 @@
-// Endpoints that leave and enter domains, the records that go with a domain, and a guest's reset.
-mod resetting;
-
+// Endpoints that leave and enter domains, and the records that go with a domain.
 ghost use mathlib.Core.Path.{_≡_};
 ghost use Rattle.rules.specs.Table.{keyOf};
-ghost use Rattle.effects.specs.Flat.{device, removed, left, moved};
-pub use resetting::reset;
+ghost use Rattle.rules.specs.declared.State.{State};
+ghost use Rattle.state.specs.Fields.{withDomains};
+ghost use Rattle.effects.specs.Flat.{device, existsFlat, left, moved};
 use rules::Domain;
 use rules::Guest;
-use rules::State;
 use rules::sizes::DOMAIN_SPAN;
 use rules::sizes::MAX_ENDPOINTS;
 use rules::sizes::TOP_ADDRESS;
@@ -19,44 +17,65 @@ pub fn key_of(g: Guest, d: Domain) -> u64
     (g.0 as u64) * DOMAIN_SPAN + (d.0 as u64)
 }
 
-// The records with a key from low to high that lie inside the addresses from a to b go.
-pub fn remove(s: State, t: &mut [u64], low: u64, high: u64, a: u64, b: u64) -> State
-    ensures { λ r. ⌜ device r (now (t .exit)) ≡ removed (device s (now (t .entry))) low high a b ⌝ }
+// Whether an endpoint of a guest is attached to a domain, in arrays that the caller may change.
+fn exists<'a>(
+    owners: &'a [u8; MAX_ENDPOINTS],
+    attached: &'a [u8; MAX_ENDPOINTS],
+    domains: &'a [u32; MAX_ENDPOINTS],
+    g: Guest,
+    d: Domain,
+) -> bool
+    ensures { λ r. ⌜ ((s : State) → r ≡ existsFlat (withDomains (now (owners .entry)) (now (attached .entry)) (now (domains .entry)) (s .live) s) g d) ⌝ }
 {
-    let live = s.live;
-    let kept = removal::remove(t, live, low, high, a, b);
-    let mut next = s;
-    next.live = kept;
-    next
+    attachments::domain_exists(owners, attached, domains, g, d)
 }
 
-// The endpoint at place i leaves domain d; with its last endpoint the domain's records go.
-pub fn leave(s: State, t: &mut [u64], g: Guest, i: usize, d: Domain) -> State
-    ensures { λ r. ⌜ device r (now (t .exit)) ≡ left (device s (now (t .entry))) g i d ⌝ }
+// The endpoint at place i leaves domain d; with its last endpoint the domain's records go. It gives how many records
+// are live then.
+pub fn leave<'a>(
+    live: usize,
+    owners: &'a [u8; MAX_ENDPOINTS],
+    attached: &'a mut [u8; MAX_ENDPOINTS],
+    domains: &'a mut [u32; MAX_ENDPOINTS],
+    t: &'a mut [u64],
+    g: Guest,
+    i: usize,
+    d: Domain,
+) -> usize
+    ensures { λ r. ⌜ ((s : State) → device (withDomains (now (owners .entry)) (now (attached .exit)) (now (domains .exit)) r s) (now (t .exit)) ≡ left (device (withDomains (now (owners .entry)) (now (attached .entry)) (now (domains .entry)) live s) (now (t .entry))) g i d) ⌝ }
 {
-    let next = attachments::attach_at(s, i, 0, Domain(0));
-    if attachments::domain_exists(&next.owners, &next.attached, &next.domains, g, d) {
-        return next;
+    attachments::attach_at(attached, domains, i, 0, Domain(0));
+    if exists(owners, attached, domains, g, d) {
+        return live;
     }
     let key = key_of(g, d);
-    remove(next, t, key, key, 0, TOP_ADDRESS)
+    removal::remove(t, live, key, key, 0, TOP_ADDRESS)
 }
 
-// The endpoint at place i is attached to domain d, leaving the domain that it was in.
-pub fn move_to(s: State, t: &mut [u64], g: Guest, i: usize, d: Domain) -> State
-    ensures { λ r. ⌜ device r (now (t .exit)) ≡ moved (device s (now (t .entry))) g i d ⌝ }
+// The endpoint at place i is attached to domain d, leaving the domain that it was in. It gives how many records are
+// live then.
+pub fn move_to<'a>(
+    live: usize,
+    owners: &'a [u8; MAX_ENDPOINTS],
+    attached: &'a mut [u8; MAX_ENDPOINTS],
+    domains: &'a mut [u32; MAX_ENDPOINTS],
+    t: &'a mut [u64],
+    g: Guest,
+    i: usize,
+    d: Domain,
+) -> usize
+    ensures { λ r. ⌜ ((s : State) → device (withDomains (now (owners .entry)) (now (attached .exit)) (now (domains .exit)) r s) (now (t .exit)) ≡ moved (device (withDomains (now (owners .entry)) (now (attached .entry)) (now (domains .entry)) live s) (now (t .entry))) g i d) ⌝ }
 {
-    if MAX_ENDPOINTS <= i {
-        return attachments::attach_at(s, i, 1, d);
-    }
-    let flag = s.attached[i];
-    let was = s.domains[i];
+    let flag = attachments::flag_at(attached, i);
+    let was = attachments::domain_at(domains, i);
     if flag != 1 {
-        return attachments::attach_at(s, i, 1, d);
+        attachments::attach_at(attached, domains, i, 1, d);
+        return live;
     }
-    if was == d.0 {
-        return s;
+    if was.0 == d.0 {
+        return live;
     }
-    let next = leave(s, t, g, i, Domain(was));
-    attachments::attach_at(next, i, 1, d)
+    let kept = leave(live, owners, attached, domains, t, g, i, was);
+    attachments::attach_at(attached, domains, i, 1, d);
+    kept
 }

@@ -1,41 +1,77 @@
-// Requests, refusals in order and then the handler of the type; and a guest's reset.
-pub mod resetting;
-
+// Requests, refusals in order and then the handler of the type.
 ghost use mathlib.Core.Path.{_≡_};
-ghost use mathlib.Core.Bool.{true};
-ghost use Prim.Native.Nat.{_<_};
-ghost use lib.Dec.{ltb};
-ghost use Rattle.rules.specs.Sizes.{maxGuests, topAddress};
-ghost use Rattle.rules.specs.Sound.{sound};
+ghost use Rattle.rules.specs.declared.State.{State};
 ghost use Rattle.rules.specs.Device as rules;
-ghost use Rattle.effects.specs.Flat.{device};
-ghost use Rattle.effects.specs.Outcome.{outcome};
-ghost use Rattle.effects.specs.Serve.{handled};
-ghost use Rattle.rules.specs.State.{Shaped};
+ghost use Rattle.state.specs.Fields.{withSettings, withEndpoints};
+ghost use Rattle.effects.specs.Flat.{device, worked};
+ghost use Rattle.effects.specs.Requesting.{handled, requestFlat};
 ghost use Rattle.effects.specs.Replied.{replied};
-use effects::Checked;
 use effects::Given;
 use effects::Handled;
+use effects::Performed;
 use layouts::request::Request;
 use rules::Answer;
 use rules::Guest;
 use rules::Mapping;
+use rules::Refusal;
+use rules::Settings;
 use rules::State;
 use rules::requests::DEVERR;
+use rules::sizes::MAX_ENDPOINTS;
 use rules::sizes::STATUS_SIZE;
+use soundness::Checked;
 
 // What the handler of a request's type gives; a refused request has none.
-fn handle(s: State, t: &mut [u64], g: Guest, q: Request) -> Handled
-    requires { ⌜ (g .0 < maxGuests) × (s .live < topAddress) ⌝ }
-    ensures { λ r. ⌜ outcome r (now (t .exit)) ≡ handled (device s (now (t .entry))) g q ⌝ }
+fn handle<'a>(
+    settings: Settings,
+    listed: usize,
+    live: usize,
+    endpoints: &'a [u32; MAX_ENDPOINTS],
+    owners: &'a [u8; MAX_ENDPOINTS],
+    attached: &'a mut [u8; MAX_ENDPOINTS],
+    domains: &'a mut [u32; MAX_ENDPOINTS],
+    t: &'a mut [u64],
+    g: Guest,
+    q: Request,
+) -> Handled
+    ensures { λ r. ⌜ ((s : State) → worked (r .status) (device (withSettings settings (withEndpoints listed (now (endpoints .entry)) (now (owners .entry)) (now (attached .exit)) (now (domains .exit)) (r .live) s)) (now (t .exit))) ≡ handled (device (withSettings settings (withEndpoints listed (now (endpoints .entry)) (now (owners .entry)) (now (attached .entry)) (now (domains .entry)) live s)) (now (t .entry))) g q) ⌝ }
 {
     match q {
         Request::Refused(_) => Handled {
             status: DEVERR,
-            state: s,
+            live,
         },
-        Request::Attach(d, e, reserved) => endpoints::handle_attach(s, t, g, d, e, reserved),
-        Request::Detach(d, e, reserved) => endpoints::handle_detach(s, t, g, d, e, reserved),
+        Request::Attach(d, e, reserved) => {
+            endpoints::handle_attach(
+                settings,
+                listed,
+                live,
+                endpoints,
+                owners,
+                attached,
+                domains,
+                t,
+                g,
+                d,
+                e,
+                reserved,
+            )
+        }
+        Request::Detach(d, e, reserved) => {
+            endpoints::handle_detach(
+                listed,
+                live,
+                endpoints,
+                owners,
+                attached,
+                domains,
+                t,
+                g,
+                d,
+                e,
+                reserved,
+            )
+        }
         Request::Map(d, f) => {
             let r = Mapping {
                 key: moves::key_of(g, d),
@@ -44,30 +80,70 @@ fn handle(s: State, t: &mut [u64], g: Guest, q: Request) -> Handled
                 phys: f.phys,
                 flags: f.flags,
             };
-            mapping::handle_map(s, t, g, d, r)
+            mapping::handle_map(settings, live, owners, attached, domains, t, g, d, r)
         }
-        Request::Unmap(d, f) => unmapping::handle_unmap(s, t, g, d, f.start, f.end, f.reserved),
+        Request::Unmap(d, f) => {
+            unmapping::handle_unmap(
+                live,
+                owners,
+                attached,
+                domains,
+                t,
+                g,
+                d,
+                f.start,
+                f.end,
+                f.reserved,
+            )
+        }
     }
 }
 
-// A request on sound state and table.
-fn serve(s: State, t: &mut [u64], g: Guest, readable: &[u8], writable: &mut [u8]) -> Given
-    requires { ⌜ (sound (device s (now t)) ≡ true) × Shaped s × (ltb (g .0) (s .settings .guests) ≡ true) ⌝ }
-    ensures { λ r. ⌜ replied r (now (writable .exit)) (now (t .exit)) ≡ rules.step (device s (now (t .entry))) (rules.of-guest g (rules.request (now (readable .entry)) (now (writable .entry)))) ⌝ }
+// A guest's request on lent arrays, state and table not tested.
+pub fn serve<'a>(
+    settings: Settings,
+    listed: usize,
+    live: usize,
+    endpoints: &'a [u32; MAX_ENDPOINTS],
+    owners: &'a [u8; MAX_ENDPOINTS],
+    attached: &'a mut [u8; MAX_ENDPOINTS],
+    domains: &'a mut [u32; MAX_ENDPOINTS],
+    t: &'a mut [u64],
+    g: Guest,
+    readable: &'a [u8],
+    writable: &'a mut [u8],
+) -> Performed
+    ensures { λ r. ⌜ ((s : State) → (record { answer = r .answer; buffer = now (writable .exit) }, device (withSettings settings (withEndpoints listed (now (endpoints .entry)) (now (owners .entry)) (now (attached .exit)) (now (domains .exit)) (r .live) s)) (now (t .exit))) ≡ requestFlat (device (withSettings settings (withEndpoints listed (now (endpoints .entry)) (now (owners .entry)) (now (attached .entry)) (now (domains .entry)) live s)) (now (t .entry))) g (now (readable .entry)) (now (writable .entry))) ⌝ }
 {
-    let q = layouts::request::parse(readable, writable.len());
-    if let Request::Refused(e) = q {
-        return Given {
-            answer: Answer::Refused(e),
-            state: s,
+    if settings.guests <= (g.0 as usize) {
+        return Performed {
+            answer: Answer::Refused(Refusal::NoSuchGuest),
+            live,
         };
     }
-    let h = handle(s, t, g, q);
+    let q = layouts::request::parse(readable, writable.len());
+    if let Request::Refused(e) = q {
+        return Performed {
+            answer: Answer::Refused(e),
+            live,
+        };
+    }
+    let h = handle(
+        settings,
+        listed,
+        live,
+        endpoints,
+        owners,
+        attached,
+        domains,
+        t,
+        g,
+        q,
+    );
     wire::status::put_status(writable, h.status);
-    let next = h.state;
-    Given {
+    Performed {
         answer: Answer::Served(STATUS_SIZE),
-        state: next,
+        live: h.live,
     }
 }
 
@@ -75,12 +151,52 @@ fn serve(s: State, t: &mut [u64], g: Guest, readable: &[u8], writable: &mut [u8]
 pub fn request(s: State, t: &mut [u64], g: Guest, readable: &[u8], writable: &mut [u8]) -> Given
     ensures { λ r. ⌜ replied r (now (writable .exit)) (now (t .exit)) ≡ rules.step (device s (now (t .entry))) (rules.of-guest g (rules.request (now (readable .entry)) (now (writable .entry)))) ⌝ }
 {
-    let test = checks::check_job(s, t, g);
+    let settings = s.settings;
+    let test = soundness::check_job(
+        settings,
+        s.listed,
+        s.live,
+        &s.endpoints,
+        &s.owners,
+        &s.attached,
+        &s.domains,
+        &s.logged,
+        &s.lost,
+        &s.reasons,
+        &s.flags,
+        &s.sources,
+        &s.addresses,
+        t,
+        g,
+    );
     if let Checked::Refused(e) = test {
         return Given {
             answer: Answer::Refused(e),
             state: s,
         };
     }
-    serve(s, t, g, readable, writable)
+    let mut attached = s.attached;
+    let mut domains = s.domains;
+    let x = serve(
+        settings,
+        s.listed,
+        s.live,
+        &s.endpoints,
+        &s.owners,
+        &mut attached,
+        &mut domains,
+        t,
+        g,
+        readable,
+        writable,
+    );
+    let mut next = s;
+    next.attached = attached;
+    next.domains = domains;
+    next.live = x.live;
+    let answer = x.answer;
+    Given {
+        answer,
+        state: next,
+    }
 }

@@ -1,26 +1,27 @@
 // A guest's endpoints detached.
 ghost use mathlib.Core.Path.{_≡_};
-ghost use Rattle.state.specs.Fields.{withAttached};
-ghost use Rattle.resets.specs.Changes.{zeroedOf};
+ghost use Rattle.rules.specs.declared.State.{State};
+ghost use Rattle.state.specs.Fields.{withEndpoints};
+ghost use Rattle.resets.specs.Changes.{endpointsDetached};
 use rules::Guest;
-use rules::State;
 use rules::sizes::MAX_ENDPOINTS;
+use state::least;
 
-// The state with guest g's endpoints detached: the flag and the domain of each are zero.
-pub(crate) fn detach_all(s: State, g: Guest) -> State
-    ensures { λ r. ⌜ r ≡ withAttached (zeroedOf (s .listed) g (s .owners) (s .attached)) (zeroedOf (s .listed) g (s .owners) (s .domains)) s ⌝ }
+// Guest g's endpoints are detached: the flag and the domain of each are zero.
+pub fn detach_all<'a>(
+    listed: usize,
+    owners: &'a [u8; MAX_ENDPOINTS],
+    attached: &'a mut [u8; MAX_ENDPOINTS],
+    domains: &'a mut [u32; MAX_ENDPOINTS],
+    g: Guest,
+)
+    ensures { λ _. ⌜ ((s : State) → withEndpoints listed (s .endpoints) (now (owners .entry)) (now (attached .exit)) (now (domains .exit)) (s .live) s ≡ endpointsDetached (withEndpoints listed (s .endpoints) (now (owners .entry)) (now (attached .entry)) (now (domains .entry)) (s .live) s) g) ⌝ }
 {
-    let owners = s.owners;
-    let mut attached = s.attached;
-    let mut domains = s.domains;
-    for i in 0..MAX_ENDPOINTS {
-        if (i < s.listed) & (owners[i] == g.0) {
+    let n = least(listed, MAX_ENDPOINTS);
+    for i in 0..n {
+        if owners[i] == g.0 {
             attached[i] = 0;
             domains[i] = 0;
         }
     }
-    let mut next = s;
-    next.attached = attached;
-    next.domains = domains;
-    next
 }

@@ -1,1 +1,3 @@
+mod Passed
 mod Verdict
+pub mod Checks

@@ -112,7 +112,7 @@ pub(crate) fn reset(
     if !p.started {
         return idle(p, true);
     }
-    let given = requests::resetting::reset(p.state, t, g);
+    let given = call_reset::reset(p.state, t, g);
     let answer = given.answer;
     let k = plain_lines::put_number(out, at, LETTER_Z, answer);
     finished(given, s, k)

@@ -1,18 +1,18 @@
-// UNMAP, on the state's arrays and the table's words.
+// UNMAP, on lent arrays of the state and the table's words.
 ghost use mathlib.Core.Path.{_≡_};
 ghost use Rattle.rules.specs.Handlers.{statusOf, unmapChain};
-ghost use Rattle.effects.specs.Flat.{device, unmapStatus, unmapFlat};
-ghost use Rattle.effects.specs.Outcome.{outcome};
+ghost use Rattle.rules.specs.declared.State.{State};
+ghost use Rattle.state.specs.Fields.{withDomains};
+ghost use Rattle.effects.specs.Flat.{device, worked, unmapStatus, unmapFlat};
 use effects::Handled;
 use moves::key_of;
-use moves::remove;
 use rules::Domain;
 use rules::Guest;
-use rules::State;
 use rules::requests::INVAL;
 use rules::requests::NOENT;
 use rules::requests::OK;
 use rules::requests::RANGE;
+use rules::sizes::MAX_ENDPOINTS;
 
 // The status of UNMAP, by what its steps' tests give.
 fn first_unmap(missing: bool, reserved: bool, order: bool, cut: bool) -> u8
@@ -34,37 +34,48 @@ fn first_unmap(missing: bool, reserved: bool, order: bool, cut: bool) -> u8
 }
 
 // The status of UNMAP for a guest, a domain and the addresses from a to b.
-fn unmap_status(s: State, t: &[u64], g: Guest, d: Domain, a: u64, b: u64, reserved: u64) -> u8
-    ensures { λ x. ⌜ x ≡ unmapStatus (device s (now (t .entry))) g d a b reserved ⌝ }
+fn unmap_status<'a>(
+    live: usize,
+    owners: &'a [u8; MAX_ENDPOINTS],
+    attached: &'a [u8; MAX_ENDPOINTS],
+    domains: &'a [u32; MAX_ENDPOINTS],
+    t: &'a [u64],
+    g: Guest,
+    d: Domain,
+    a: u64,
+    b: u64,
+    reserved: u64,
+) -> u8
+    ensures { λ x. ⌜ ((s : State) → x ≡ unmapStatus (device (withDomains (now (owners .entry)) (now (attached .entry)) (now (domains .entry)) live s) (now (t .entry))) g d a b reserved) ⌝ }
 {
-    let exists = attachments::domain_exists(&s.owners, &s.attached, &s.domains, g, d);
-    let cut = overlaps::straddled(t, s.live, key_of(g, d), a, b);
+    let exists = attachments::domain_exists(owners, attached, domains, g, d);
+    let cut = overlaps::straddled(t, live, key_of(g, d), a, b);
     first_unmap(!exists, reserved != 0, b < a, cut)
 }
 
 // UNMAP for a guest: the domain's records inside the addresses from a to b go where every step passes.
-pub fn handle_unmap(
-    s: State,
-    t: &mut [u64],
+pub fn handle_unmap<'a>(
+    live: usize,
+    owners: &'a [u8; MAX_ENDPOINTS],
+    attached: &'a [u8; MAX_ENDPOINTS],
+    domains: &'a [u32; MAX_ENDPOINTS],
+    t: &'a mut [u64],
     g: Guest,
     d: Domain,
     a: u64,
     b: u64,
     reserved: u64,
 ) -> Handled
-    ensures { λ x. ⌜ outcome x (now (t .exit)) ≡ unmapFlat (device s (now (t .entry))) g d a b reserved ⌝ }
+    ensures { λ x. ⌜ ((s : State) → worked (x .status) (device (withDomains (now (owners .entry)) (now (attached .entry)) (now (domains .entry)) (x .live) s) (now (t .exit))) ≡ unmapFlat (device (withDomains (now (owners .entry)) (now (attached .entry)) (now (domains .entry)) live s) (now (t .entry))) g d a b reserved) ⌝ }
 {
-    let status = unmap_status(s, t, g, d, a, b, reserved);
+    let status = unmap_status(live, owners, attached, domains, t, g, d, a, b, reserved);
     if status != OK {
-        return Handled {
-            status: status,
-            state: s,
-        };
+        return Handled { status, live };
     }
     let key = key_of(g, d);
-    let next = remove(s, t, key, key, a, b);
+    let kept = removal::remove(t, live, key, key, a, b);
     Handled {
         status: OK,
-        state: next,
+        live: kept,
     }
 }

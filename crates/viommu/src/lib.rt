@@ -121,7 +121,7 @@ pub extern "C" fn viommu_access(
 pub extern "C" fn viommu_reset(s: State, t: &mut [u64], g: Guest) -> ResetGiven
     ensures { λ r. ⌜ (r .number ≡ number (rules.step (device s (now (t .entry))) (rules.of-guest g rules.reset) .0 .answer)) × (device (r .state) (now (t .exit)) ≡ rules.step (device s (now (t .entry))) (rules.of-guest g rules.reset) .1) ⌝ }
 {
-    let given = requests::resetting::reset(s, t, g);
+    let given = call_reset::reset(s, t, g);
     let answer = given.answer;
     let next = given.state;
     let values = answers::values_of(answer);

@@ -1,45 +1,49 @@
 -- `accesses::access` meets its contract. Assumes nothing.
 use borrow.Author.Needs.{needs}
-use borrow.Author.Tests.{not-false}
-use mathlib.Core.Path.{sym, _∙_}
+use mathlib.Core.List.{[]}
+use mathlib.Core.Path.{_≡_, sym, ap, _∙_}
+use Rattle.rules.specs.declared.State.{State}
+use Rattle.rules.specs.declared.Answer.{Answer}
 use Rattle.rules.specs.declared.Answer.the-variants.{Blocked}
-use Rattle.effects.proofs.Entries.{access-unsound, access-works, listed-fits, lands-fit}
-use Rattle.effects.proofs.Decided.{logs-nothing}
+use Rattle.rules.specs.Device.{access-by, step}
+use Rattle.effects.specs.Flat.{device, afterAccess}
+use Rattle.effects.specs.Translating.{answered}
+use Rattle.accesses.proofs.Decisions.{logs-nothing}
+use Rattle.accesses.proofs.Stepping.{access-unsound, access-works}
 use Rattle.accesses.proofs.access.Statement.{statement}
 use Rattle.accesses.proofs.access.Tie as tie
+
+abbrev start : tie.After-is-sound → tie.Start
+start c = c .before .before .before .before .before .before .before .before .before .before .before .before .before .before
+
+-- where the test has passed, whoever has the answer has the step
+works : (c : tie.Else1) (x : Answer) → (let a = start (c .before) .args in x ≡ answered (device (a .t1) (a .t .now)) (a .a) → (r : State) → r ≡ afterAccess (a .t1) (a .a) x → (record { answer = x; buffer = [] }, device r (a .t .now)) ≡ step (device (a .t1) (a .t .now)) (access-by (a .a)))
+works c x e r z =
+    let a = start (c .before) .args in
+    let i = c .before .is-sound in
+    ap (λ (y : State). (record { answer = x; buffer = [] }, device y (a .t .now))) z
+    ∙ access-works (device (a .t1) (a .t .now)) (a .a) (i .result) (i .ensures .0) (c .if1 .left) (i .ensures .1 .0) (i .ensures .1 .1) x e
 
 returns : tie.Need-returns
 returns c =
     let x = c .before .is-sound in
-    let a = c .before .before .before .args in
-    access-unsound (a .t1) (a .t .now) (a .a) (x .result) (x .ensures .0) (c .if1 .taken)
-
-decide-requires : tie.Need-decide-requires
-decide-requires c κs =
-    let i = c .before .before .before .before .before in
-    let x = i .before .is-sound in
-    let a = i .before .before .before .args in
-    let here = sym (x .ensures .0) ∙ not-false (x .result) (i .if1 .left) in
-    (listed-fits (a .t1) (a .t .now) here (x .ensures .1), λ key r e. lands-fit (a .t1) (a .t .now) here (x .ensures .1) (x .ensures .2) (a .a) key r e)
+    let a = start (c .before) .args in
+    access-unsound (device (a .t1) (a .t .now)) (a .a) (x .result) (x .ensures .0) (c .if1 .taken)
 
 returns-2 : tie.Need-returns-2
 returns-2 c =
-    let b = c .log-blocked in
-    let n = c .before .before .answer .given in
-    let d = c .before .before .before .before in
+    let n = c .before .before .before .before .before .before .before .before .before .before .before .before .before .before .before .before .before in
+    let d = n .before .before in
     let i = d .before .before .before .before .before .before in
-    let x = i .before .is-sound in
-    let a = i .before .before .before .args in
-    access-works (a .t1) (a .t .now) (a .a) (x .result) (x .ensures .0) (i .if1 .left) (x .ensures .1) (Blocked (n .0 .0)) (b .result) (sym (n .1) ∙ d .decide .ensures) (b .ensures)
+    let s = start (i .before) .args .t1 in
+    works i (Blocked (n .answer .given .0 .0)) (sym (n .answer .given .1) ∙ d .translate .ensures s) _ (c .report-fault .ensures s)
 
 returns-3 : tie.Need-returns-3
 returns-3 c =
     let d = c .before in
     let i = d .before .before .before .before .before .before in
-    let x = i .before .is-sound in
-    let a = i .before .before .before .args in
-    access-works (a .t1) (a .t .now) (a .a) (x .result) (x .ensures .0) (i .if1 .left) (x .ensures .1) (d .decide .result) (a .t1) (d .decide .ensures)
-    (logs-nothing (a .t1) (a .a) (d .decide .result) (c .match .keys2))
+    let a = start (i .before) .args in
+    works i (d .translate .result) (d .translate .ensures (a .t1)) (a .t1) (logs-nothing (a .t1) (a .a) (d .translate .result) (c .match .keys2))
 
 pub access-spec : {M : Type 1} → statement M
-access-spec = tie.close (tie.spec (λ c κs. search needs) returns decide-requires (λ c. search needs) (λ c κs. search needs) returns-2 returns-3)
+access-spec = tie.close (tie.spec (λ c κs. search needs) returns (λ c κs. search needs) (λ c. search needs) (λ c κs. search needs) returns-2 returns-3)

@@ -1,34 +1,39 @@
--- Where nothing goes the state stays; else the count falls, and the four arrays are shifted.
+-- Where nothing goes all stays; else the count falls, and the four arrays are shifted.
+use Prim.Native.Nat.{_<_}
 use native.Mathlib.Nat.{min-le-left}
 use borrow.Author.Needs.{needs}
+use borrow.Author.Tests.{lt-ltb}
 use lib.ListN.{getD}
-use Rattle.state.proofs.Lengths.{shaped}
+use Rattle.rules.specs.Sizes.{maxGuests}
 use Rattle.state.proofs.Offsets.{times-eight, guest-below}
 use Rattle.dropping.specs.Changes.{faultsDropped}
-use Rattle.dropping.proofs.Oldest.{none-shifted, none-counted, some-guest, minus-least}
+use Rattle.dropping.proofs.Oldest.{none-dropped, some-guest, minus-least}
 use Rattle.dropping.proofs.drop_faults.Statement.{statement}
 use Rattle.dropping.proofs.drop_faults.Tie as tie
 
 returns : tie.Need-returns
-unfolding faultsDropped
-returns c =
-    let b = c .before .before in
-    let s = b .args .s in
-    let n = shaped s _ (b .good .0) in
-    let t = none-shifted (b .args .g) (b .args .k) (c .if1 .taken) in
-    rw (
-      none-counted (b .args .g) (b .args .k) (c .if1 .taken) (s .logged) (n .logged),
-      t (s .reasons) (n .reasons),
-      t (s .flags) (n .flags),
-      t (s .sources) (n .sources),
-      t (s .addresses) (n .addresses),
-    )
+returns c = let a = c .before .before .args in λ s. none-dropped _ (a .g) (a .k) (c .if1 .taken)
+
+-- the guest has a place
+there : (c : tie.Else1) → c .before .before .args .g .0 < maxGuests
+there c = some-guest _ _ (c .if1 .left)
 
 returns-2 : tie.Need-returns-2
 unfolding faultsDropped
 returns-2 c =
-    let a = c .before .before .before .before .before .args in
-    rw (c .before .least .ensures, minus-least (getD (a .s .logged) (a .g .0) 0) (a .k), c .shift-faults .ensures)
+    let x = c .shift-faults .ensures in
+    let m = c .before .before .before .before .before in
+    let e = m .before .before in
+    let a = e .before .before .args in
+    λ s. rw (
+      lt-ltb (a .g .0) maxGuests (there e),
+      m .least .ensures,
+      minus-least (getD (a .logged .now) (a .g .0) 0) (a .k),
+      x .0,
+      x .1,
+      x .2,
+      x .3,
+    )
 
 pub drop-faults-spec : {M : Type 1} → statement M
 drop-faults-spec =
@@ -36,11 +41,11 @@ drop-faults-spec =
     (tie.spec
     (λ c. search needs)
     returns
-    (λ c. times-eight _ (guest-below _ (some-guest _ _ (c .before .if1 .left))))
-    (λ c. some-guest _ _ (c .before .if1 .left))
+    (λ c. times-eight _ (guest-below _ (there c)))
+    (λ c. there c)
     (λ c κs. tt)
     (λ c. rw (c .least .ensures) (min-le-left _ _))
-    (λ c. times-eight _ (guest-below _ (some-guest _ _ (c .before .before .if1 .left))))
-    (λ c. some-guest _ _ (c .before .before .if1 .left))
-    (λ c κs. some-guest _ _ (c .before .before .if1 .left))
+    (λ c. times-eight _ (guest-below _ (there (c .before .before))))
+    (λ c. there (c .before .before))
+    (λ c κs. there (c .before .before .before .before .before .before))
     returns-2)

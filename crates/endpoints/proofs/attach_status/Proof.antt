@@ -7,7 +7,7 @@ use Rattle.endpoints.proofs.attach_status.Tie as tie
 
 returns : tie.Need-returns
 unfolding attachStatus
-returns c = c .first-attach .ensures ∙ rw (c .before .is-outside .ensures, c .before .before .owned-at .ensures)
+returns c s = c .first-attach .ensures ∙ rw (c .before .is-outside .ensures, c .before .before .owned-at .ensures)
 
 pub attach-status-spec : {M : Type 1} → statement M
 attach-status-spec = tie.close (tie.spec (λ c κs. search needs) (λ c κs. search needs) (λ c κs. search needs) returns)

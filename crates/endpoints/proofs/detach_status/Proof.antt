@@ -7,7 +7,7 @@ use Rattle.endpoints.proofs.detach_status.Tie as tie
 
 returns : tie.Need-returns
 unfolding detachStatus
-returns c = c .first-detach .ensures ∙ rw (c .before .is-in .ensures, c .before .before .owned-at .ensures)
+returns c s = c .first-detach .ensures ∙ rw (c .before .is-in .ensures, c .before .before .owned-at .ensures)
 
 pub detach-status-spec : {M : Type 1} → statement M
 detach-status-spec = tie.close (tie.spec (λ c κs. search needs) (λ c κs. search needs) (λ c κs. search needs) returns)

@@ -1,30 +1,32 @@
 -- `moves::leave` meets its contract. Assumes nothing.
 use borrow.Author.Needs.{needs}
-use Rattle.effects.specs.Flat.{existsFlat}
-use Rattle.effects.proofs.Turns.{left-stays, left-goes}
+use Rattle.state.specs.Fields.{withDomains}
+use Rattle.effects.proofs.Turns.{remove-turn}
+use Rattle.moves.proofs.Moving.{left-stays, left-goes}
 use Rattle.moves.proofs.leave.Statement.{statement}
 use Rattle.moves.proofs.leave.Tie as tie
 
 returns : tie.Need-returns
-unfolding existsFlat
-returns c =
-    let x = c .before .domain-exists in
-    let n = c .before .before .before .before .before .before .before .before .before .attach-at in
-    let a = c .before .before .before .before .before .before .before .before .before .before .before .args in
-    left-stays (a .s) (n .result) (a .t .now) (a .g) (a .i) (a .d) (x .result) (n .ensures) (x .ensures) (c .if1 .taken)
+returns c s =
+    let x = c .before .exists in
+    let n = c .before .before .before .before .attach-at in
+    let a = c .before .before .before .before .before .before .before .before .args in
+    let here = withDomains (a .owners .now) (a .attached .now) (a .domains .now) (a .live) s in
+    let next = withDomains (a .owners .now) (n .last .0) (n .last .1 .0) (a .live) s in
+    left-stays here next (a .t .now) (a .g) (a .i) (a .d) (x .result) (n .ensures here) (x .ensures next) (c .if1 .taken)
 
 returns-2 : tie.Need-returns-2
-unfolding existsFlat
-returns-2 c =
+returns-2 c s =
     let r = c .before .before .remove in
     let k = c .before .before .before .before .key-of in
     let e = c .before .before .before .before .before in
-    let x = e .before .domain-exists in
-    let n = e .before .before .before .before .before .before .before .before .before .attach-at in
-    let a = e .before .before .before .before .before .before .before .before .before .before .before .args in
-    left-goes (a .s) (n .result) (r .result) (a .t .now) (r .last .1 .0) (a .g) (a .i) (a .d) (x .result) (k .result) (n .ensures) (x .ensures) (e .if1 .left) (k .ensures) (r .ensures)
+    let x = e .before .exists in
+    let n = e .before .before .before .before .attach-at in
+    let a = e .before .before .before .before .before .before .before .before .args in
+    let here = withDomains (a .owners .now) (a .attached .now) (a .domains .now) (a .live) s in
+    let next = withDomains (a .owners .now) (n .last .0) (n .last .1 .0) (a .live) s in
+    let gone = remove-turn next (a .t .now) (r .last .0) (k .result) (k .result) 0 _ (r .result) (r .ensures .0) (r .ensures .1) in
+    left-goes here next (withDomains (a .owners .now) (n .last .0) (n .last .1 .0) (r .result) s) (a .t .now) (r .last .0) (a .g) (a .i) (a .d) (x .result) (k .result) (n .ensures here) (x .ensures next) (e .if1 .left) (k .ensures) gone
 
 pub leave-spec : {M : Type 1} → statement M
-leave-spec =
-    tie.close
-    (tie.spec (λ c κs. search needs) (λ c κs. search needs) returns (λ c κs. search needs) (λ c κs. search needs) (λ c. search needs) returns-2)
+leave-spec = tie.close (tie.spec (λ c κs. search needs) (λ c κs. search needs) returns (λ c κs. search needs) (λ c κs. search needs) (λ c. search needs) returns-2)

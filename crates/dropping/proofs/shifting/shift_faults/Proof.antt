@@ -5,39 +5,37 @@ use Prim.Native.Nat.{_+_, _*_, _-_, _≤_}
 use mathlib.Core.Logic.{⊎-elim}
 use Rattle.rules.specs.Sizes.{maxFaults}
 use Rattle.rules.specs.Sound.{guest}
-use Rattle.state.proofs.Lengths.{shaped}
 use Rattle.dropping.proofs.Oldest.{Shifted, shift-first, shift-in, shift-out, shift-last}
 use Rattle.dropping.proofs.shifting.shift_faults.Statement.{statement}
 use Rattle.dropping.proofs.shifting.shift_faults.Tie as tie
 
 abbrev Inv-loop : tie.InvT-loop
-Inv-loop s k reasons₀ flags₀ sources₀ addresses₀ g first end i₀ reasons flags sources addresses i =
+Inv-loop reasons₀ flags₀ sources₀ addresses₀ k g first end i₀ reasons flags sources addresses i =
     (maxFaults * g ≤ i) × (i ≤ maxFaults * g + maxFaults)
     × (Shifted (guest g) k i reasons₀ reasons × Shifted (guest g) k i flags₀ flags × Shifted (guest g) k i sources₀ sources × Shifted (guest g) k i addresses₀ addresses)
 
 abbrev μ-loop : tie.MeasureT-loop
-μ-loop s k reasons₀ flags₀ sources₀ addresses₀ g first end i₀ reasons flags sources addresses i = maxFaults * g + maxFaults - i
+μ-loop reasons₀ flags₀ sources₀ addresses₀ k g first end i₀ reasons flags sources addresses i = maxFaults * g + maxFaults - i
 
 loop-holds : tie.Need-loop-holds Inv-loop μ-loop
 loop-holds c =
-    let b = c .before .before .before .before .before in
-    let n = shaped (b .args .s) _ (b .good .0) in
-    let t = shift-first (b .args .g) (b .args .k) in
-    (omega arith, omega arith, (t _ (n .reasons), t _ (n .flags), t _ (n .sources), t _ (n .addresses)))
+    let a = c .before .args in
+    let t = shift-first (a .g) (a .k) in
+    (omega arith, omega arith, (t _, t _, t _, t _))
 
 loop-again : tie.Need-loop-again Inv-loop μ-loop
 loop-again c =
     let l = c .before .before in
-    let b = l .before .before .before .before .before .before in
+    let a = l .before .before .args in
     let v = l .loop .inv .2 in (
       omega arith,
       omega arith,
       ⊎-elim
           (λ w.
-          let t = shift-in (b .args .g) (b .args .k) (l .loop .i) (b .pre) (l .loop .inv .0) (omega arith) (omega (arith, w .0)) in
-          (rw (w .1) (t _ _ (v .0)), rw (w .2) (t _ _ (v .1)), rw (w .3) (t _ _ (v .2)), rw (w .4) (t _ _ (v .3))))
+          let t = shift-in (a .g) (a .k) (l .loop .i) (l .loop .inv .0) (omega arith) (omega (arith, w .0)) in
+          (rw (w .5) (t _ _ (v .0)), rw (w .6) (t _ _ (v .1)), rw (w .7) (t _ _ (v .2)), rw (w .8) (t _ _ (v .3))))
           (λ w.
-          let t = shift-out (b .args .g) (b .args .k) (l .loop .i) (b .pre) (l .loop .inv .0) (omega arith) (omega (arith, w .0)) in
+          let t = shift-out (a .g) (a .k) (l .loop .i) (l .loop .inv .0) (omega arith) (omega (arith, w .0)) in
           (rw (w .1) (t _ _ (v .0)), rw (w .2) (t _ _ (v .1)), rw (w .3) (t _ _ (v .2)), rw (w .4) (t _ _ (v .3))))
           (c .if1 .came),
     )
@@ -45,10 +43,10 @@ loop-again c =
 returns : tie.Need-returns Inv-loop μ-loop
 returns c =
     let l = c .before in
-    let a = l .before .before .before .before .before .before .args in
+    let a = l .before .before .args in
     let v = l .loop .inv .2 in
     let t = shift-last (a .g) (a .k) (l .loop .i) (omega arith) in
-    rw (t _ _ (v .0), t _ _ (v .1), t _ _ (v .2), t _ _ (v .3))
+    (t _ _ (v .0), t _ _ (v .1), t _ _ (v .2), t _ _ (v .3))
 
 pub shift-faults-spec : {M : Type 1} → statement M
 shift-faults-spec =

@@ -1,0 +1,36 @@
+-- A reset, in the parts that it is worked in, is on sound state and table the device's step.
+use Prim.Native.Nat.{ℕ}
+use mathlib.Core.Path.{_≡_, refl, sym}
+use mathlib.Core.Bool.{Bool, true, false}
+use mathlib.Core.List.{List, []}
+use lib.Dec.{ltb}
+use Rattle.rules.specs.declared.Guest.{Guest}
+use Rattle.rules.specs.declared.State.{State}
+use Rattle.rules.specs.declared.Answer.{Answer}
+use Rattle.rules.specs.State.{Device, Shaped, configOf}
+use Rattle.rules.specs.Sound.{sound}
+use Rattle.rules.specs.Device.{Reply, reset, of-guest, step}
+use Rattle.rules.proofs.Refusals.{no-such-guest}
+use Rattle.resets.specs.Changes.{guestCleared}
+use Rattle.effects.specs.Flat.{device, resetFlat}
+use Rattle.effects.specs.Resetting.{resetAnswer, logsReset, domainsReset}
+use Rattle.effects.proofs.Stepped.{reset-step}
+
+-- the answer and the device afterwards, of the parts
+abbrev pub resetParts : Device → Guest → Reply × Device
+resetParts d g =
+    (record { answer = resetAnswer (d .state .settings .guests) g; buffer = [] }, domainsReset (d .state .settings .guests) (device (logsReset (d .state .settings .guests) (d .state) g) (d .table)) g)
+
+pub reset-is-step : (d : Device) → sound d ≡ true → Shaped (d .state) → (g : Guest) → resetParts d g ≡ step d (of-guest g reset)
+unfolding resetAnswer logsReset domainsReset
+reset-is-step d h k g = go (ltb (g .0) (d .state .settings .guests)) refl
+  where
+    go : (b : Bool) → ltb (g .0) (d .state .settings .guests) ≡ b → resetParts d g ≡ step d (of-guest g reset)
+    go true t = rw t (unfold resetFlat guestCleared in sym (reset-step d h k g t))
+    go false t = rw t (sym (no-such-guest d (of-guest g reset) (unfold configOf in t)))
+
+-- the same of a reset whose three parts are told
+pub reset-works : (s : State) (ws : List ℕ) (g : Guest) → sound (device s ws) ≡ true → Shaped s → (x : Answer) (t r : State) (vs : List ℕ)
+    → x ≡ resetAnswer (s .settings .guests) g → t ≡ logsReset (s .settings .guests) s g → device r vs ≡ domainsReset (s .settings .guests) (device t ws) g
+    → (record { answer = x; buffer = [] }, device r vs) ≡ step (device s ws) (of-guest g reset)
+reset-works s ws g h k x t r vs p q e = rw (e, q, p) (reset-is-step (device s ws) h k g)

@@ -1,0 +1,26 @@
+-- A guest's reset, in the parts that it is worked in: the answer, the logs, and the endpoints with the records.
+use Prim.Native.Nat.{ℕ, _+_, _-_, _*_}
+use mathlib.Core.Bool.{cond}
+use lib.Dec.{ltb}
+use Rattle.rules.specs.Sizes.{domainSpan, topAddress}
+use Rattle.rules.specs.declared.Guest.{Guest}
+use Rattle.rules.specs.declared.State.{State}
+use Rattle.rules.specs.declared.Answer.{Answer}
+use Rattle.rules.specs.declared.Answer.the-variants.{Done, Refused}
+use Rattle.rules.specs.declared.Refusal.the-variants.{NoSuchGuest}
+use Rattle.rules.specs.State.{Device}
+use Rattle.resets.specs.Changes.{logCleared, endpointsDetached}
+use Rattle.effects.specs.Flat.{device, removed}
+
+-- of so many guests, guest g is reset
+unfoldable pub resetAnswer : ℕ → Guest → Answer
+resetAnswer guests g = cond (ltb (g .0) guests) Done (Refused NoSuchGuest)
+
+unfoldable pub logsReset : ℕ → State → Guest → State
+logsReset guests s g = cond (ltb (g .0) guests) (logCleared s g) s
+
+unfoldable pub domainsReset : ℕ → Device → Guest → Device
+domainsReset guests d g =
+    cond (ltb (g .0) guests)
+    (removed (device (endpointsDetached (d .state) g) (d .table)) (g .0 * domainSpan) (g .0 * domainSpan + (domainSpan - 1)) 0 topAddress)
+    d
