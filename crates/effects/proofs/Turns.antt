@@ -1,4 +1,4 @@
--- What each function of the code shows at its returns, as laws on states and words.
+-- What functions of several crates show at their returns, as laws on states and words.
 use Prim.Native.Nat.{ℕ}
 use mathlib.Core.Path.{_≡_, sym}
 use mathlib.Core.List.{List}
