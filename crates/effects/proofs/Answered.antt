@@ -58,9 +58,6 @@ module _ (d : Device) (h : sound d ≡ true) (k : Shaped (d .state)) where
   c : Config
   c = configOf (d .state)
 
-  endpoints-is : take (d .state .listed) (d .state .endpoints) ≡ configOf (d .state) .endpoints
-  endpoints-is = unfold configOf in refl
-
   listed-is : d .state .listed ≡ length (configOf (d .state) .endpoints)
   listed-is = sym (sound-listed d h)
 
