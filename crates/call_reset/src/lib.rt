@@ -19,6 +19,7 @@ use rules::sizes::MAX_ENDPOINTS;
 use rules::sizes::MAX_GUESTS;
 use rules::sizes::TOP_ADDRESS;
 use soundness::Checked;
+use state::least;
 
 // The highest domain number.
 const LAST_DOMAIN: u64 = DOMAIN_SPAN - 1;
@@ -44,7 +45,7 @@ pub fn reset_guest<'a>(
     ensures { λ _. ⌜ ((s : declared.State) → withLogs (now (logged .exit)) (now (lost .exit)) (now (reasons .exit)) (now (flags .exit)) (now (sources .exit)) (now (addresses .exit)) s ≡ logsReset guests (withLogs (now (logged .entry)) (now (lost .entry)) (now (reasons .entry)) (now (flags .entry)) (now (sources .entry)) (now (addresses .entry)) s) g) ⌝ }
     ensures { λ r. ⌜ ((s : declared.State) → device (withEndpoints listed (s .endpoints) (now (owners .entry)) (now (attached .exit)) (now (domains .exit)) (r .live) s) (now (t .exit)) ≡ domainsReset guests (device (withEndpoints listed (s .endpoints) (now (owners .entry)) (now (attached .entry)) (now (domains .entry)) live s) (now (t .entry))) g) ⌝ }
 {
-    if guests <= (g.0 as usize) {
+    if least(guests, MAX_GUESTS) <= (g.0 as usize) {
         return Performed {
             answer: Answer::Refused(Refusal::NoSuchGuest),
             live,

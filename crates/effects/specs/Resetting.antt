@@ -1,8 +1,8 @@
 -- A guest's reset, in the parts that it is worked in: the answer, the logs, and the endpoints with the records.
-use Prim.Native.Nat.{ℕ, _+_, _-_, _*_}
-use mathlib.Core.Bool.{cond}
+use Prim.Native.Nat.{ℕ, _+_, _-_, _*_, min}
+use mathlib.Core.Bool.{Bool, cond}
 use lib.Dec.{ltb}
-use Rattle.rules.specs.Sizes.{domainSpan, topAddress}
+use Rattle.rules.specs.Sizes.{maxGuests, domainSpan, topAddress}
 use Rattle.rules.specs.declared.Guest.{Guest}
 use Rattle.rules.specs.declared.State.{State}
 use Rattle.rules.specs.declared.Answer.{Answer}
@@ -12,15 +12,19 @@ use Rattle.rules.specs.State.{Device}
 use Rattle.resets.specs.Changes.{logCleared, endpointsDetached}
 use Rattle.effects.specs.Flat.{device, removed}
 
+-- guest g is one of so many, and has places
+unfoldable pub isGuest : ℕ → Guest → Bool
+isGuest guests g = ltb (g .0) (min guests maxGuests)
+
 -- of so many guests, guest g is reset
 unfoldable pub resetAnswer : ℕ → Guest → Answer
-resetAnswer guests g = cond (ltb (g .0) guests) Done (Refused NoSuchGuest)
+resetAnswer guests g = cond (isGuest guests g) Done (Refused NoSuchGuest)
 
 unfoldable pub logsReset : ℕ → State → Guest → State
-logsReset guests s g = cond (ltb (g .0) guests) (logCleared s g) s
+logsReset guests s g = cond (isGuest guests g) (logCleared s g) s
 
 unfoldable pub domainsReset : ℕ → Device → Guest → Device
 domainsReset guests d g =
-    cond (ltb (g .0) guests)
+    cond (isGuest guests g)
     (removed (device (endpointsDetached (d .state) g) (d .table)) (g .0 * domainSpan) (g .0 * domainSpan + (domainSpan - 1)) 0 topAddress)
     d
