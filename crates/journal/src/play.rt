@@ -1,22 +1,46 @@
 // A part of a journal, worked as far as its records are whole and there is room for their lines.
-ghost use Prim.Native.Nat.{_+_, _≤_};
 ghost use lib.ListN.{length};
 ghost use mathlib.Core.Path.{_≡_};
+ghost use mathlib.Core.Bool.{_&&_};
+ghost use Rattle.rules.specs.Sound.{sound};
+ghost use Rattle.effects.specs.Flat.{device};
 ghost use Rattle.journal.specs.Journal.{played};
 ghost use Rattle.playing.specs.Telling.{Tells};
+use crate::run::past;
+use crate::run::run;
 use playing::player::Player;
 use playing::player::RECORD_ROOM;
 use playing::player::Turned;
 
-// A place n places on, which is not past the end.
-fn past(at: usize, n: usize, end: usize) -> usize
-    requires { ⌜ at + n ≤ end ⌝ }
-    ensures { λ r. ⌜ r ≡ at + n ⌝ }
+// Whether the journal has started, and state and table are sound.
+fn is_running(p: Player, t: &[u64]) -> bool
+    ensures { λ r. ⌜ r ≡ (p .started && sound (device (p .state) (now (t .entry)))) ⌝ }
 {
-    at + n
+    if !p.started {
+        return false;
+    }
+    let s = p.state;
+    let settings = s.settings;
+    soundness::is_sound(
+        settings,
+        s.listed,
+        s.live,
+        &s.endpoints,
+        &s.owners,
+        &s.attached,
+        &s.domains,
+        &s.logged,
+        &s.lost,
+        &s.reasons,
+        &s.flags,
+        &s.sources,
+        &s.addresses,
+        t,
+    )
 }
 
-// The records of s, the part at hand, from the first on; their lines stand at the front of out.
+// The records of s, the part at hand, from the first on; their lines stand at the front of out. From the first record on that finds
+// a sound device running, no test is made.
 pub fn play(p: Player, t: &mut [u64], s: &[u8], out: &mut [u8]) -> Turned
     ensures { λ r. ⌜ Tells r (now (t .exit)) (now (out .entry)) (now (out .exit)) 0 (played (length (now (out .entry))) p (now (t .entry)) (now (s .entry))) ⌝ }
 {
@@ -24,6 +48,16 @@ pub fn play(p: Player, t: &mut [u64], s: &[u8], out: &mut [u8]) -> Turned
     let mut read: usize = 0;
     let mut printed: usize = 0;
     while out.len() - printed >= RECORD_ROOM {
+        if is_running(player, t) {
+            let x = run(player.state, t, &s[read..], &mut out[printed..]);
+            let last = x.player;
+            return Turned {
+                player: last,
+                read: past(read, x.read, s.len()),
+                printed: past(printed, x.printed, out.len()),
+                bad: x.bad,
+            };
+        }
         let x = turns::turn(player, t, &s[read..], out, printed);
         player = x.player;
         read = past(read, x.read, s.len());

@@ -1,3 +1,3 @@
 pub mod Reading
-mod Counting
-mod Calling
+pub mod Counting
+pub mod Calling

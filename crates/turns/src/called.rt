@@ -34,11 +34,6 @@ fn finished(given: Given, s: &[u8], k: usize) -> Turned
     consumed(true, given.state, items::size_of(s), k)
 }
 
-// The letters of a start's and a reset's line.
-const LETTER_S: u8 = 83;
-
-const LETTER_Z: u8 = 90;
-
 // Set-up with what was named, unless the journal has started.
 pub(crate) fn start(
     p: Player,
@@ -56,7 +51,7 @@ pub(crate) fn start(
     }
     let given = naming::start(p.state, t, f);
     let answer = given.answer;
-    let k = plain_lines::put_number(out, at, LETTER_S, answer);
+    let k = plain_lines::put_number(out, at, b'S', answer);
     finished(given, s, k)
 }
 
@@ -114,7 +109,7 @@ pub(crate) fn reset(
     }
     let given = call_reset::reset(p.state, t, g);
     let answer = given.answer;
-    let k = plain_lines::put_number(out, at, LETTER_Z, answer);
+    let k = plain_lines::put_number(out, at, b'Z', answer);
     finished(given, s, k)
 }
 
