@@ -36,7 +36,7 @@ use Rattle.rules.proofs.Reading.{sound-whole}
 use Rattle.rules.proofs.Refusals.{unsound}
 use Rattle.rules.proofs.Shape.{small-count}
 use Rattle.effects.specs.Flat.{device, ownerAt, placeOfEndpoint, liveRecords, answerOf, decisionAt, decision, afterAccess}
-use Rattle.effects.specs.Translating.{inWords, answered}
+use Rattle.effects.specs.Translating.{inWords, answered, accessFlat}
 use Rattle.effects.proofs.Answered.{access-step}
 
 module _ (d : Device) (h : sound d ≡ true) (k : Shaped (d .state)) (wide : (i : ℕ) → windowLast (d .state .settings) i ≤ 18446744073709551615) where
@@ -80,7 +80,7 @@ module _ (d : Device) (h : sound d ≡ true) (k : Shaped (d .state)) (wide : (i 
       go true true none e = refl
       go true true (some r) e = rw (le-leb (x .address - r .start + r .phys) topAddress (lands-fit x key r e))
 
-  pub access-answered : (x : Access) → (record { answer = answered d x; buffer = [] }, device (afterAccess (d .state) x (answered d x)) (d .table)) ≡ step d (access-by x)
+  pub access-answered : (x : Access) → accessFlat d x ≡ step d (access-by x)
   access-answered x = rw (answer-decides x) (sym (access-step d h k x))
 
 -- the entry at its returns

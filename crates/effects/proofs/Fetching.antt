@@ -12,17 +12,12 @@ use Rattle.rules.specs.declared.Guest.{Guest}
 use Rattle.rules.specs.Sizes.{maxGuests, maxFaults}
 use Rattle.rules.specs.State.{Device, Shaped, configOf}
 use Rattle.rules.specs.Sound.{sound}
-use Rattle.rules.specs.Device.{Reply, fetch, of-guest, step}
+use Rattle.rules.specs.Device.{fetch, of-guest, step}
 use Rattle.rules.proofs.Groups.{sound-facts}
 use Rattle.rules.proofs.Reading.{sound-good}
 use Rattle.rules.proofs.Refusals.{no-such-guest}
-use Rattle.effects.specs.Flat.{device}
-use Rattle.effects.specs.Fetching.{logFits, fetched, unfetched, fetchFlat}
+use Rattle.effects.specs.Fetching.{logFits, fetched, unfetched, fetchFlat, fetchedFlat}
 use Rattle.effects.proofs.Answered.{fetch-step}
-
--- the reply and the device afterwards
-abbrev pub fetchParts : Device → Guest → List ℕ → Reply × Device
-fetchParts d g b = let r = fetchFlat (d .state .settings .guests) (d .state) g b in (r .0, device (r .1) (d .table))
 
 -- a guest's log in a sound state is one that it has room for
 log-fits : (d : Device) → sound d ≡ true → (g : Guest) → ltb (g .0) (d .state .settings .guests) ≡ true → logFits (d .state) g ≡ true
@@ -31,10 +26,10 @@ log-fits d h g t =
     let few : d .state .settings .guests ≤ maxGuests = unfold configOf in sound-good d h .guests .1 in
     both (ltb (g .0) maxGuests) _ (lt-ltb (g .0) maxGuests (omega (arith, few, below))) (le-leb (getD (d .state .logged) (g .0) 0) maxFaults (sound-facts d h .places .counts (g .0) below))
 
-pub fetch-is-step : (d : Device) → sound d ≡ true → Shaped (d .state) → (g : Guest) (b : List ℕ) → fetchParts d g b ≡ step d (of-guest g (fetch b))
+pub fetch-is-step : (d : Device) → sound d ≡ true → Shaped (d .state) → (g : Guest) (b : List ℕ) → fetchedFlat (d .state .settings .guests) d g b ≡ step d (of-guest g (fetch b))
 unfolding fetchFlat fetched unfetched
 fetch-is-step d h k g b = go (ltb (g .0) (d .state .settings .guests)) refl
   where
-    go : (t : Bool) → ltb (g .0) (d .state .settings .guests) ≡ t → fetchParts d g b ≡ step d (of-guest g (fetch b))
+    go : (t : Bool) → ltb (g .0) (d .state .settings .guests) ≡ t → fetchedFlat (d .state .settings .guests) d g b ≡ step d (of-guest g (fetch b))
     go true t = rw (t, log-fits d h g t) (sym (fetch-step d h k g b t))
     go false t = rw t (sym (no-such-guest d (of-guest g (fetch b)) (unfold configOf in t)))

@@ -11,20 +11,15 @@ use Rattle.rules.specs.declared.Answer.{Answer}
 use Rattle.rules.specs.State.{Device, Shaped, configOf}
 use Rattle.rules.specs.Sound.{sound}
 use Rattle.rules.specs.Sizes.{maxGuests}
-use Rattle.rules.specs.Device.{Reply, reset, of-guest, step}
+use Rattle.rules.specs.Device.{reset, of-guest, step}
 use Rattle.rules.proofs.Reading.{sound-good}
 use Rattle.rules.proofs.Refusals.{no-such-guest}
 use Rattle.resets.specs.Changes.{guestCleared}
 use Rattle.effects.specs.Flat.{device, resetFlat}
-use Rattle.effects.specs.Resetting.{isGuest, resetAnswer, logsReset, domainsReset}
+use Rattle.effects.specs.Resetting.{isGuest, resetAnswer, logsReset, domainsReset, resetWhole}
 use Rattle.effects.proofs.Stepped.{reset-step}
 
--- the answer and the device afterwards, of the parts
-abbrev pub resetParts : Device → Guest → Reply × Device
-resetParts d g =
-    (record { answer = resetAnswer (d .state .settings .guests) g; buffer = [] }, domainsReset (d .state .settings .guests) (device (logsReset (d .state .settings .guests) (d .state) g) (d .table)) g)
-
-pub reset-is-step : (d : Device) → sound d ≡ true → Shaped (d .state) → (g : Guest) → resetParts d g ≡ step d (of-guest g reset)
+pub reset-is-step : (d : Device) → sound d ≡ true → Shaped (d .state) → (g : Guest) → resetWhole (d .state .settings .guests) d g ≡ step d (of-guest g reset)
 unfolding resetAnswer logsReset domainsReset isGuest
 reset-is-step d h k g = go (ltb (g .0) (d .state .settings .guests)) refl
   where
@@ -32,7 +27,7 @@ reset-is-step d h k g = go (ltb (g .0) (d .state .settings .guests)) refl
     all-have : ltb (g .0) (min (d .state .settings .guests) maxGuests) ≡ ltb (g .0) (d .state .settings .guests)
     all-have = ap (λ n. ltb (g .0) n) (min-eq-left (unfold configOf in sound-good d h .guests .1))
 
-    go : (b : Bool) → ltb (g .0) (d .state .settings .guests) ≡ b → resetParts d g ≡ step d (of-guest g reset)
+    go : (b : Bool) → ltb (g .0) (d .state .settings .guests) ≡ b → resetWhole (d .state .settings .guests) d g ≡ step d (of-guest g reset)
     go true t = rw (all-have ∙ t) (unfold resetFlat guestCleared in sym (reset-step d h k g t))
     go false t = rw (all-have ∙ t) (sym (no-such-guest d (of-guest g reset) (unfold configOf in t)))
 

@@ -10,9 +10,10 @@ use Rattle.rules.specs.declared.State.{State}
 use Rattle.rules.specs.declared.Answer.the-variants.{Fetched, Refused}
 use Rattle.rules.specs.declared.Refusal.{Refusal}
 use Rattle.rules.specs.declared.Refusal.the-variants.{NoSuchGuest, Unsound}
+use Rattle.rules.specs.State.{Device}
 use Rattle.rules.specs.Device.{Reply}
 use Rattle.dropping.specs.Changes.{faultsDropped}
-use Rattle.effects.specs.Flat.{fetchCount, fetchBytes}
+use Rattle.effects.specs.Flat.{device, fetchCount, fetchBytes}
 
 -- n of guest g's faults given and gone
 unfoldable pub fetched : State → Guest → ℕ → List ℕ → Reply × State
@@ -32,3 +33,7 @@ fetchFlat guests s g buffer =
     cond (ltb (g .0) guests)
     (cond (logFits s g) (fetched s g (fetchCount s g (length buffer)) buffer) (unfetched s Unsound buffer))
     (unfetched s NoSuchGuest buffer)
+
+-- the same on the device, whose table stays
+abbrev pub fetchedFlat : ℕ → Device → Guest → List ℕ → Reply × Device
+fetchedFlat guests d g buffer = (fetchFlat guests (d .state) g buffer .0, device (fetchFlat guests (d .state) g buffer .1) (d .table))

@@ -1,6 +1,7 @@
 -- What an access is answered for every state and table, those too that are not sound. On sound ones it is the decision of
 -- Flat.antt.
 use mathlib.Core.Bool.{cond}
+use mathlib.Core.List.{[]}
 use lib.Dec.{leb}
 use Rattle.rules.specs.Sizes.{maxEndpoints, topAddress}
 use Rattle.rules.specs.declared.Answer.{Answer}
@@ -8,7 +9,8 @@ use Rattle.rules.specs.declared.Answer.the-variants.{Done, Served, Through, Fet
 use Rattle.rules.specs.declared.Refusal.the-variants.{Unsound}
 use Rattle.rules.specs.declared.Access.{Access}
 use Rattle.rules.specs.State.{Device}
-use Rattle.effects.specs.Flat.{decision}
+use Rattle.rules.specs.Device.{Reply}
+use Rattle.effects.specs.Flat.{device, decision, afterAccess}
 
 -- the answer, where the address that it gives is one of 64 bits; a record that leads past them is none of a sound table
 unfoldable pub inWords : Answer → Answer
@@ -22,3 +24,7 @@ inWords (Blocked c) = Blocked c
 -- the decision, where the endpoints listed have places
 abbrev pub answered : Device → Access → Answer
 answered d a = cond (leb (d .state .listed) maxEndpoints) (inWords (decision d a)) (Refused Unsound)
+
+-- an access: its answer, and the device with its fault logged where it is blocked
+abbrev pub accessFlat : Device → Access → Reply × Device
+accessFlat d a = (record { answer = answered d a; buffer = [] }, device (afterAccess (d .state) a (answered d a)) (d .table))

@@ -26,9 +26,9 @@ use Rattle.playing.specs.Telling.{Tells}
 use Rattle.turns.proofs.Calling.{tells-call}
 use Rattle.journal.specs.declared.calls.Ran.{Ran}
 use Rattle.effects.specs.Fetching.{fetched, unfetched, logFits, fetchFlat}
-use Rattle.effects.specs.Resetting.{resetAnswer, logsReset, domainsReset}
-use Rattle.effects.specs.Translating.{answered}
-use Rattle.journal.specs.Running.{ranTo, accessFlat, resetWhole}
+use Rattle.effects.specs.Resetting.{resetAnswer, logsReset, domainsReset, resetWhole}
+use Rattle.effects.specs.Translating.{answered, accessFlat}
+use Rattle.journal.specs.Running.{ranTo}
 
 -- a call is worked that leaves this state by the count of live records, and its lines are put where there is room for them
 pub tells-ran :

@@ -27,11 +27,14 @@ use Rattle.items.specs.declared.Item.the-variants.{Cut, Wrong, NamedGuest, Name
 use Rattle.items.specs.Items.{front, requestBytes}
 use Rattle.playing.specs.declared.player.Player.{Player}
 use Rattle.playing.specs.declared.player.Turned.{Turned}
-use Rattle.playing.specs.Turns.{idle, playerDevice, fetchedTurn, running, turnOf, turn}
+use Rattle.playing.specs.Turns.{idle, playerDevice, fetchedTurn, running, turnOf, turn, requestedTurn, accessedTurn, clearedTurn}
 use Rattle.playing.specs.Telling.{Tells}
 use Rattle.playing.proofs.Telling.{tells-silent}
 use Rattle.journal.specs.declared.calls.Ran.{Ran}
-use Rattle.journal.specs.Running.{Ready, ranTo, accessFlat, resetWhole, fetchedFlat, requestedTurn, accessedTurn, clearedTurn}
+use Rattle.journal.specs.Running.{Ready, ranTo}
+use Rattle.effects.specs.Translating.{accessFlat}
+use Rattle.effects.specs.Resetting.{resetWhole}
+use Rattle.effects.specs.Fetching.{fetchedFlat}
 
 -- a player that has started runs
 pub runs : (p : Player) → p .started ≡ true → running (p .state) ≡ p

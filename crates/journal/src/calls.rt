@@ -9,10 +9,13 @@ ghost use Rattle.rules.specs.declared.State.{State};
 ghost use Rattle.rules.specs.Sizes.{maxFaults, faultSize, statusSize};
 ghost use Rattle.state.specs.Fields.{withSettings, withEndpoints, withLive, withLogs};
 ghost use Rattle.effects.specs.Flat.{device};
-ghost use Rattle.playing.specs.Turns.{recordRoom, fetchedTurn};
+ghost use Rattle.playing.specs.Turns.{recordRoom, requestedTurn, accessedTurn, clearedTurn, fetchedTurn};
 ghost use Rattle.playing.specs.Telling.{Tells};
 ghost use Rattle.effects.specs.Requesting.{requestFlat};
-ghost use Rattle.journal.specs.Running.{ranTo, requestedTurn, accessedTurn, clearedTurn, accessFlat, resetWhole, fetchedFlat};
+ghost use Rattle.effects.specs.Translating.{accessFlat};
+ghost use Rattle.effects.specs.Resetting.{resetWhole};
+ghost use Rattle.effects.specs.Fetching.{fetchedFlat};
+ghost use Rattle.journal.specs.Running.{ranTo};
 use accesses::make_access;
 use call_reset::reset_guest;
 use fetch_lines::put_fetch;
@@ -41,7 +44,7 @@ pub struct Ran {
 }
 
 // The record at the front of b is worked, and k bytes are printed.
-fn worked(live: usize, b: &[u8], k: usize) -> Ran
+fn consumed(live: usize, b: &[u8], k: usize) -> Ran
     ensures { λ r. ⌜ r ≡ record { live = live; read = sizeOf (now (b .entry)); printed = k; bad = false } ⌝ }
 {
     Ran {
@@ -90,7 +93,7 @@ pub(crate) fn work_request<'a>(
     );
     let answer = x.answer;
     let k = put_request(out, at, answer, &writable);
-    worked(x.live, b, k)
+    consumed(x.live, b, k)
 }
 
 // An access.
@@ -136,7 +139,7 @@ pub(crate) fn work_access<'a>(
         a,
     );
     let k = put_access(out, at, answer);
-    worked(live, b, k)
+    consumed(live, b, k)
 }
 
 // A reset.
@@ -183,7 +186,7 @@ pub(crate) fn work_reset<'a>(
     );
     let answer = x.answer;
     let k = put_number(out, at, b'Z', answer);
-    worked(x.live, b, k)
+    consumed(x.live, b, k)
 }
 
 // A fetch into a buffer for no more records than may be asked for.
@@ -218,7 +221,7 @@ fn fetch_into<'a>(
         buffer,
     );
     let k = put_fetch(out, at, answer, buffer);
-    worked(live, b, k)
+    consumed(live, b, k)
 }
 
 // The bytes of as many fault records as a fetch may ask for.

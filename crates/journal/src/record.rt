@@ -19,7 +19,7 @@ use rules::sizes::MAX_ENDPOINTS;
 use rules::sizes::MAX_GUESTS;
 
 // No record is worked.
-fn stopped(live: usize, bad: bool) -> Ran
+fn unread(live: usize, bad: bool) -> Ran
     ensures { λ r. ⌜ r ≡ record { live = live; read = 0; printed = 0; bad = bad } ⌝ }
 {
     Ran {
@@ -58,11 +58,11 @@ pub(crate) fn work_record<'a>(
         (turn (running (stateWith settings listed live (now (endpoints .entry)) (now (owners .entry)) (now (attached .entry)) (now (domains .entry)) (now (logged .entry)) (now (lost .entry)) (now (reasons .entry)) (now (flags .entry)) (now (sources .entry)) (now (addresses .entry)))) (now (t .entry)) (now (b .entry))) ⌝ }
 {
     match items::front(b) {
-        Item::Cut => stopped(live, false),
-        Item::Wrong => stopped(live, true),
-        Item::NamedGuest(_) => stopped(live, true),
-        Item::NamedEndpoint(_, _) => stopped(live, true),
-        Item::Start(_) => stopped(live, true),
+        Item::Cut => unread(live, false),
+        Item::Wrong => unread(live, true),
+        Item::NamedGuest(_) => unread(live, true),
+        Item::NamedEndpoint(_, _) => unread(live, true),
+        Item::Start(_) => unread(live, true),
         Item::Request(g) => work_request(
             settings,
             listed,

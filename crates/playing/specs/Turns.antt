@@ -82,17 +82,25 @@ abbrev pub startTurn : Player → List ℕ → List ℕ → StartFields → Turn
 startTurn p t s f = startedTurn s (setUp (configOf (withSettings (rangesNamed f (p .state .settings)) (p .state))) t)
 
 -- "0x11, 0x12, 0x13": a request; its writable part has four bytes
+abbrev pub requestedTurn : List ℕ → Reply × Device → Turn
+requestedTurn s r = callTurn s (λ x. requestLine (x .answer) (x .buffer)) r
+
 abbrev pub requestTurn : Player → List ℕ → List ℕ → Guest → Turn
-requestTurn p t s g =
-    callTurn s (λ r. requestLine (r .answer) (r .buffer)) (step (playerDevice p t) (of-guest g (request (requestBytes s) (replicate statusSize 0))))
+requestTurn p t s g = requestedTurn s (step (playerDevice p t) (of-guest g (request (requestBytes s) (replicate statusSize 0))))
 
 -- "0x21": an access
+abbrev pub accessedTurn : List ℕ → Reply × Device → Turn
+accessedTurn s r = callTurn s (λ x. accessLine (x .answer)) r
+
 abbrev pub accessTurn : Player → List ℕ → List ℕ → Access → Turn
-accessTurn p t s x = callTurn s (λ r. accessLine (r .answer)) (step (playerDevice p t) (access-by x))
+accessTurn p t s x = accessedTurn s (step (playerDevice p t) (access-by x))
 
 -- "0x22 reset"
+abbrev pub clearedTurn : List ℕ → Reply × Device → Turn
+clearedTurn s r = callTurn s (λ x. numberLine letterZ (x .answer)) r
+
 abbrev pub resetTurn : Player → List ℕ → List ℕ → Guest → Turn
-resetTurn p t s g = callTurn s (λ r. numberLine letterZ (r .answer)) (step (playerDevice p t) (of-guest g reset))
+resetTurn p t s g = clearedTurn s (step (playerDevice p t) (of-guest g reset))
 
 -- "0x23 fetch"; its buffer has room for the records asked
 abbrev pub fetchedTurn : List ℕ → Reply × Device → Turn

@@ -19,7 +19,7 @@ returns c s t =
     let e = x .fetch-faults .ensures m in
     let l : length (f .1 .1 .1 .1 .1 .1 .0) ≡ length (a .buffer .now) = search needs in
     tells-ran fetchRoom (a .b .now) (λ r. fetchLines (r .answer) (r .buffer)) (λ n. withLive n (withLogs (f .0) (s .lost) (f .1 .0) (f .1 .1 .0) (f .1 .1 .1 .0) (f .1 .1 .1 .1 .0) s)) (st .pre .1)
-    (handed t e) (rw (fetch-fits (a .guests) _ (a .g) (a .buffer .now) _ _ _ e l (st .pre .0)) at (k .put-fetch .ensures)) (c .worked .ensures)
+    (handed t e) (rw (fetch-fits (a .guests) _ (a .g) (a .buffer .now) _ _ _ e l (st .pre .0)) at (k .put-fetch .ensures)) (c .consumed .ensures)
 
 pub fetch-into-spec : {M : Type 1} → statement M
 fetch-into-spec = tie.close (tie.spec (λ c κs. tt) (λ c κs. tt) (λ c κs. tt) (λ c. search needs) (λ c. search needs) returns)

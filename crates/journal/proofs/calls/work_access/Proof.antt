@@ -19,7 +19,7 @@ returns c s =
     let l = x .make-access .last .1 .1 .1 .1 .1 .1 in
     let on : ℕ → State = λ n. withEndpoints (a .listed) (a .endpoints .now) (a .owners .now) (a .attached .now) (a .domains .now) n (withLogs (l .0) (l .1 .0) (l .1 .1 .0) (l .1 .1 .1 .0) (l .1 .1 .1 .1 .0) (l .1 .1 .1 .1 .1 .0) s) in
     let m = withEndpoints (a .listed) (a .endpoints .now) (a .owners .now) (a .attached .now) (a .domains .now) (a .live) (withLogs (a .logged .now) (a .lost .now) (a .reasons .now) (a .flags .now) (a .sources .now) (a .addresses .now) s) in
-    tells-ran lineRoom (a .b .now) (λ r. accessLine (r .answer)) on (omega (arith, st .pre)) (accessed m (a .t .now) (a .a) (x .make-access .ensures .0 m) (x .make-access .ensures .1 m)) (k .put-access .ensures) (c .worked .ensures)
+    tells-ran lineRoom (a .b .now) (λ r. accessLine (r .answer)) on (omega (arith, st .pre)) (accessed m (a .t .now) (a .a) (x .make-access .ensures .0 m) (x .make-access .ensures .1 m)) (k .put-access .ensures) (c .consumed .ensures)
 
 pub work-access-spec : {M : Type 1} → statement M
 work-access-spec = tie.close (tie.spec (λ c κs. tt) (λ c κs. tt) (λ c κs. tt) (λ c. search needs) returns)

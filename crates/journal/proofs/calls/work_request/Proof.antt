@@ -18,7 +18,7 @@ returns c s =
     let st = z .before .before .before .before in
     let a = st .args in
     let on : ℕ → State = λ n. withSettings (a .settings) (withEndpoints (a .listed) (a .endpoints .now) (a .owners .now) (x .serve .last .1 .1 .1 .1 .1 .0) (x .serve .last .1 .1 .1 .1 .1 .1 .0) n s) in
-    tells-ran lineRoom (a .b .now) (λ r. requestLine (r .answer) (r .buffer)) on (omega (arith, st .pre .1)) (rw (z .size-of .ensures) at (x .serve .ensures s)) (k .put-request .ensures) (c .worked .ensures)
+    tells-ran lineRoom (a .b .now) (λ r. requestLine (r .answer) (r .buffer)) on (omega (arith, st .pre .1)) (rw (z .size-of .ensures) at (x .serve .ensures s)) (k .put-request .ensures) (c .consumed .ensures)
 
 pub work-request-spec : {M : Type 1} → statement M
 work-request-spec =

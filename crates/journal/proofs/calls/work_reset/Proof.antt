@@ -19,7 +19,7 @@ returns c s =
     let after = withLogs (l .0) (l .1 .0) (l .1 .1 .0) (l .1 .1 .1 .0) (l .1 .1 .1 .1 .0) (l .1 .1 .1 .1 .1 .0) s in
     let m = withEndpoints (a .listed) (s .endpoints) (a .owners .now) (a .attached .now) (a .domains .now) (a .live) s in
     tells-ran lineRoom (a .b .now) (λ r. numberLine letterZ (r .answer)) (λ n. withEndpoints (a .listed) (s .endpoints) (a .owners .now) (e .0) (e .1 .0) n after) (omega (arith, st .pre))
-    (cleared _ _ (a .t .now) (a .g) (x .reset-guest .ensures .0) (x .reset-guest .ensures .1 .0 m) (x .reset-guest .ensures .1 .1 after)) (k .put-number .ensures) (c .worked .ensures)
+    (cleared _ _ (a .t .now) (a .g) (x .reset-guest .ensures .0) (x .reset-guest .ensures .1 .0 m) (x .reset-guest .ensures .1 .1 after)) (k .put-number .ensures) (c .consumed .ensures)
 
 pub work-reset-spec : {M : Type 1} → statement M
 work-reset-spec = tie.close (tie.spec (λ c κs. tt) (λ c κs. tt) (λ c κs. tt) (λ c. search needs) (λ c. search needs) returns)
