@@ -3,12 +3,12 @@ ghost use mathlib.Core.Path.{_≡_};
 ghost use mathlib.Core.List.{[]};
 ghost use Rattle.rules.specs.Device as rules;
 ghost use Rattle.rules.specs.declared.State as declared;
-ghost use Rattle.state.specs.Fields.{withLogs, withEndpoints};
-ghost use Rattle.effects.specs.Flat.{device};
-ghost use Rattle.effects.specs.Resetting.{resetAnswer, logsReset, domainsReset};
-ghost use Rattle.effects.specs.Replied.{replied};
-use effects::Given;
-use effects::Performed;
+ghost use Rattle.state_fields.specs.Fields.{withLogs, withEndpoints};
+ghost use Rattle.refinement.specs.Flat.{device};
+ghost use Rattle.refinement.specs.Resetting.{resetAnswer, logsReset, domainsReset};
+ghost use Rattle.refinement.specs.Replied.{replied};
+use refinement::Given;
+use refinement::Performed;
 use rules::Answer;
 use rules::Guest;
 use rules::Refusal;
@@ -18,8 +18,8 @@ use rules::sizes::FAULT_PLACES;
 use rules::sizes::MAX_ENDPOINTS;
 use rules::sizes::MAX_GUESTS;
 use rules::sizes::TOP_ADDRESS;
-use soundness::Checked;
-use state::least;
+use sound::Checked;
+use state_fields::least;
 
 // The highest domain number.
 const LAST_DOMAIN: u64 = DOMAIN_SPAN - 1;
@@ -51,10 +51,10 @@ pub fn reset_guest<'a>(
             live,
         };
     }
-    resets::clear_log(logged, lost, reasons, flags, sources, addresses, g);
-    resets::detach_all(listed, owners, attached, domains, g);
+    state_reset::clear_log(logged, lost, reasons, flags, sources, addresses, g);
+    state_reset::detach_all(listed, owners, attached, domains, g);
     let low = (g.0 as u64) * DOMAIN_SPAN;
-    let kept = removal::remove(t, live, low, low + LAST_DOMAIN, 0, TOP_ADDRESS);
+    let kept = table_remove::remove(t, live, low, low + LAST_DOMAIN, 0, TOP_ADDRESS);
     Performed {
         answer: Answer::Done,
         live: kept,
@@ -66,7 +66,7 @@ pub fn reset(s: State, t: &mut [u64], g: Guest) -> Given
     ensures { λ r. ⌜ replied r [] (now (t .exit)) ≡ rules.step (device s (now (t .entry))) (rules.of-guest g rules.reset) ⌝ }
 {
     let settings = s.settings;
-    let test = soundness::check_job(
+    let test = sound::check_job(
         settings,
         s.listed,
         s.live,

@@ -1,7 +1,7 @@
-// Replays a journal from standard input and prints its lines: reads, lets `crates/streaming` advance, writes.
+// Replays a journal from standard input and prints its lines: reads, lets `crates/journal_blocks` advance, writes.
 ghost use Rattle.io.specs.Counts.{Counts};
 use rules::sizes::TABLE_WORDS;
-use streaming::Progress;
+use journal_blocks::Progress;
 
 // Where the loop stands: how far the journal has come, and whether it stops there.
 struct Round {
@@ -35,7 +35,7 @@ fn read_more(wants: bool, block: &mut [u8], held: usize) -> isize {
 
 // Advances, and writes what that put. Where lines can't be written, none may follow.
 fn work(p: Progress, table: &mut [u64], block: &mut [u8], out: &mut [u8], got: usize) -> Round {
-    let x = streaming::advance(p, table, block, out, got);
+    let x = journal_blocks::advance(p, table, block, out, got);
     let written = print(out, x.printed);
     let progress = x.progress;
     Round {
@@ -60,7 +60,7 @@ fn go_on(p: Progress, table: &mut [u64], block: &mut [u8], out: &mut [u8]) -> Ro
 // Works the journal to its end. A proved loop has to end, so it counts down from a number that no journal uses up.
 fn replay_all(table: &mut [u64], block: &mut [u8], out: &mut [u8]) {
     let mut at = Round {
-        progress: streaming::beginning(),
+        progress: journal_blocks::beginning(),
         done: false,
     };
     let mut rounds = u64::MAX;

@@ -14,7 +14,7 @@ use rules::Fault;
 use rules::Guest;
 use rules::sizes::FAULT_PLACES;
 use rules::sizes::MAX_FAULTS;
-use state::least;
+use state_fields::least;
 
 // Whether f has the form of a fault and names an endpoint of guest g.
 fn fault_good<'a>(

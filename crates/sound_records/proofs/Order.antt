@@ -13,7 +13,7 @@ use Rattle.laws.proofs.Filters.{all-imp}
 use Rattle.rules.specs.declared.Mapping.{Mapping}
 use Rattle.rules.specs.Table.{before, overlap, apart}
 use Rattle.rules.proofs.Records.{before-cases, before-lower, before-same, before-trans, wide}
-use Rattle.table.specs.Records.{noMapping}
+use Rattle.table_record.specs.Records.{noMapping}
 use Rattle.sound_records.specs.Scan.{follows, scan}
 
 abbrev Past : Mapping → Mapping → Type 0

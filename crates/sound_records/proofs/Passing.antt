@@ -16,10 +16,10 @@ use Rattle.rules.specs.Configuration.{share, windowFirst, windowLast}
 use Rattle.rules.specs.Table.{guestOf}
 use Rattle.rules.specs.Guests.{recordsOf}
 use Rattle.rules.specs.Sound.{guest, sharesKept}
-use Rattle.table.specs.Records.{noMapping}
-use Rattle.table.proofs.Laws.{gone}
-use Rattle.forms.specs.Forms.{formGood, run}
-use Rattle.forms.proofs.Going.{now-at}
+use Rattle.table_record.specs.Records.{noMapping}
+use Rattle.table_record.proofs.Laws.{gone}
+use Rattle.map_steps.specs.Forms.{formGood, run}
+use Rattle.map_steps.proofs.Going.{now-at}
 use Rattle.sound_records.specs.Scan.{ownGood, scan, opening}
 use Rattle.laws.proofs.Turns.{below-same}
 use Rattle.sound_records.proofs.GoingOn.{run-own, run-other}

@@ -15,7 +15,7 @@ use Rattle.rules.specs.State.{Attachment, attachment}
 use Rattle.rules.specs.Table.{records, guestOf, domainOf}
 use Rattle.rules.specs.Handlers.{exists}
 use Rattle.rules.specs.Sound.{guest}
-use Rattle.forms.specs.Forms.{formGood}
+use Rattle.map_steps.specs.Forms.{formGood}
 
 -- the attachments of guest g, among the first n endpoints
 abbrev pub attachmentsOf : Guest → ℕ → List ℕ → List ℕ → List ℕ → List Attachment

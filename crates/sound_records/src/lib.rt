@@ -10,13 +10,13 @@ ghost use Rattle.laws.specs.Lists.{every?};
 ghost use Rattle.rules.specs.Sizes.{maxGuests, maxEndpoints};
 ghost use Rattle.rules.specs.Table.{records};
 ghost use Rattle.rules.specs.Sound.{sharesKept};
-ghost use Rattle.table.specs.Records.{noMapping};
+ghost use Rattle.table_record.specs.Records.{noMapping};
 ghost use Rattle.sound_records.specs.Scan as spec;
 use domains::domain_held;
 use domains::domain_of;
 use domains::hints_of;
-use forms::opens;
-use forms::run_end;
+use map_steps::opens;
+use map_steps::run_end;
 use rules::Guest;
 use rules::Settings;
 use rules::sizes::DOMAIN_SPAN;
@@ -50,7 +50,7 @@ fn placed_good<'a>(
     let mut key: u64 = 0;
     let mut i: usize = 0;
     while i < live {
-        let r = table::get(t, i);
+        let r = table_record::get(t, i);
         let g = (r.key / DOMAIN_SPAN) as usize;
         if g >= guests {
             return false;

@@ -4,8 +4,8 @@ pub mod queries;
 ghost use mathlib.Core.Path.{_≡_};
 ghost use Rattle.rules.specs.Answers.{number, usedLength, addressOf, fetchedCount};
 ghost use Rattle.rules.specs.Device as rules;
-ghost use Rattle.effects.specs.Flat.{device};
-ghost use Rattle.effects.specs.Setting.{configured};
+ghost use Rattle.refinement.specs.Flat.{device};
+ghost use Rattle.refinement.specs.Setting.{configured};
 use rules::Access;
 use rules::Endpoint;
 use rules::Guest;
@@ -59,10 +59,10 @@ pub extern "C" fn viommu_set_up(
 ) -> SetUpGiven
     ensures { λ r. ⌜ (r .number ≡ number (rules.setUp (configured settings (now (endpoints .entry)) (now (owners .entry))) (now (t .entry)) .answer)) × (device (r .state) (now (t .exit)) ≡ rules.setUp (configured settings (now (endpoints .entry)) (now (owners .entry))) (now (t .entry)) .device) ⌝ }
 {
-    let given = setup::set_up(settings, endpoints, owners, t);
+    let given = call_setup::set_up(settings, endpoints, owners, t);
     let answer = given.answer;
     let next = given.state;
-    let values = answers::values_of(answer);
+    let values = call_answers::values_of(answer);
     SetUpGiven {
         number: values.number,
         state: next,
@@ -80,10 +80,10 @@ pub extern "C" fn viommu_request(
     ensures { λ r. ⌜ (r .number ≡ number (rules.step (device s (now (t .entry))) (rules.of-guest g (rules.request (now (readable .entry)) (now (writable .entry)))) .0 .answer)) × (r .used ≡ usedLength (rules.step (device s (now (t .entry))) (rules.of-guest g (rules.request (now (readable .entry)) (now (writable .entry)))) .0 .answer)) ⌝ }
     ensures { λ r. ⌜ (device (r .state) (now (t .exit)) ≡ rules.step (device s (now (t .entry))) (rules.of-guest g (rules.request (now (readable .entry)) (now (writable .entry)))) .1) × (now (writable .exit) ≡ rules.step (device s (now (t .entry))) (rules.of-guest g (rules.request (now (readable .entry)) (now (writable .entry)))) .0 .buffer) ⌝ }
 {
-    let given = requests::request(s, t, g, readable, writable);
+    let given = call_request::request(s, t, g, readable, writable);
     let answer = given.answer;
     let next = given.state;
-    let values = answers::values_of(answer);
+    let values = call_answers::values_of(answer);
     RequestGiven {
         number: values.number,
         used: values.used,
@@ -106,10 +106,10 @@ pub extern "C" fn viommu_access(
         address,
         kind,
     };
-    let given = accesses::access(s, t, a);
+    let given = call_access::access(s, t, a);
     let answer = given.answer;
     let next = given.state;
-    let values = answers::values_of(answer);
+    let values = call_answers::values_of(answer);
     AccessGiven {
         number: values.number,
         address: values.address,
@@ -124,7 +124,7 @@ pub extern "C" fn viommu_reset(s: State, t: &mut [u64], g: Guest) -> ResetGiven
     let given = call_reset::reset(s, t, g);
     let answer = given.answer;
     let next = given.state;
-    let values = answers::values_of(answer);
+    let values = call_answers::values_of(answer);
     ResetGiven {
         number: values.number,
         state: next,
@@ -136,10 +136,10 @@ pub extern "C" fn viommu_fetch(s: State, t: &[u64], g: Guest, buffer: &mut [u8])
     ensures { λ r. ⌜ (r .number ≡ number (rules.step (device s (now (t .entry))) (rules.of-guest g (rules.fetch (now (buffer .entry)))) .0 .answer)) × (r .count ≡ fetchedCount (rules.step (device s (now (t .entry))) (rules.of-guest g (rules.fetch (now (buffer .entry)))) .0 .answer)) ⌝ }
     ensures { λ r. ⌜ (device (r .state) (now (t .entry)) ≡ rules.step (device s (now (t .entry))) (rules.of-guest g (rules.fetch (now (buffer .entry)))) .1) × (now (buffer .exit) ≡ rules.step (device s (now (t .entry))) (rules.of-guest g (rules.fetch (now (buffer .entry)))) .0 .buffer) ⌝ }
 {
-    let given = fetches::fetch(s, t, g, buffer);
+    let given = call_fetch::fetch(s, t, g, buffer);
     let answer = given.answer;
     let next = given.state;
-    let values = answers::values_of(answer);
+    let values = call_answers::values_of(answer);
     FetchGiven {
         number: values.number,
         count: values.count,

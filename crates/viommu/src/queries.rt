@@ -12,7 +12,7 @@ use rules::State;
 pub extern "C" fn viommu_held(s: State, t: &[u64], g: Guest) -> usize
     ensures { λ r. ⌜ r ≡ length (recordsOf g (take (s .live) (records (now (t .entry))))) ⌝ }
 {
-    holdings::held(t, s.live, g)
+    table_count::held(t, s.live, g)
 }
 
 // A guest's lost count, 0 for a guest number that there is not.
@@ -21,7 +21,7 @@ pub extern "C" fn viommu_lost(s: State, g: Guest) -> u32
     ensures { λ r. ⌜ r ≡ getD (s .lost) (g .0) 0 ⌝ }
 {
     let lost = s.lost;
-    logging::lost_of(lost, g)
+    state_log::lost_of(lost, g)
 }
 
 // The number of bytes that a request of this type has in its readable part, to be asked before a buffer is gathered.
@@ -29,7 +29,7 @@ pub extern "C" fn viommu_lost(s: State, g: Guest) -> u32
 pub extern "C" fn viommu_readable_length(kind: u8) -> usize
     ensures { λ r. ⌜ r ≡ readableLength kind ⌝ }
 {
-    lengths::readable_length(kind)
+    wire_lengths_::readable_length(kind)
 }
 
 // The number of bytes that a request of this type has in its writable part.
@@ -37,5 +37,5 @@ pub extern "C" fn viommu_readable_length(kind: u8) -> usize
 pub extern "C" fn viommu_writable_length(kind: u8) -> usize
     ensures { λ r. ⌜ r ≡ writableLength kind ⌝ }
 {
-    lengths::writable_length(kind)
+    wire_lengths_::writable_length(kind)
 }

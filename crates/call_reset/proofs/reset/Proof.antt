@@ -1,10 +1,10 @@
 -- `call_reset::reset` meets its contract. Assumes nothing.
 use borrow.Author.Needs.{needs}
 use Rattle.rules.specs.Device as rules
-use Rattle.state.specs.Fields.{withLogs}
-use Rattle.soundness.proofs.Checks.{job-refused, job-passes}
-use Rattle.effects.specs.Flat.{device}
-use Rattle.effects.proofs.Resetting.{reset-works}
+use Rattle.state_fields.specs.Fields.{withLogs}
+use Rattle.sound.proofs.Checks.{job-refused, job-passes}
+use Rattle.refinement.specs.Flat.{device}
+use Rattle.refinement.proofs.Resetting.{reset-works}
 use Rattle.call_reset.proofs.reset.Statement.{statement}
 use Rattle.call_reset.proofs.reset.Tie as tie
 

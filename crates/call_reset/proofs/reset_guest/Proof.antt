@@ -7,10 +7,10 @@ use mathlib.Core.List.{List}
 use lib.ListN.{length}
 use Rattle.rules.specs.Sizes.{maxGuests, topAddress}
 use Rattle.rules.specs.declared.State.{State}
-use Rattle.state.specs.Fields.{withLive}
-use Rattle.removal.specs.Removed.{keptOf, removedWords}
-use Rattle.effects.specs.Flat.{device, removed}
-use Rattle.effects.specs.Resetting.{isGuest, resetAnswer, logsReset, domainsReset}
+use Rattle.state_fields.specs.Fields.{withLive}
+use Rattle.table_remove.specs.Removed.{keptOf, removedWords}
+use Rattle.refinement.specs.Flat.{device, removed}
+use Rattle.refinement.specs.Resetting.{isGuest, resetAnswer, logsReset, domainsReset}
 use Rattle.call_reset.proofs.reset_guest.Statement.{statement}
 use Rattle.call_reset.proofs.reset_guest.Tie as tie
 

@@ -15,10 +15,10 @@ use Rattle.rules.specs.declared.Mapping.{Mapping}
 use Rattle.rules.specs.Sizes.{maxGuests}
 use Rattle.rules.specs.Configuration.{share, windowFirst, windowLast}
 use Rattle.rules.specs.Table.{records, guestOf}
-use Rattle.table.specs.Records.{noMapping}
-use Rattle.table.proofs.Laws.{gone}
-use Rattle.forms.specs.Forms.{formGood, run}
-use Rattle.forms.proofs.Going.{run-within}
+use Rattle.table_record.specs.Records.{noMapping}
+use Rattle.table_record.proofs.Laws.{gone}
+use Rattle.map_steps.specs.Forms.{formGood, run}
+use Rattle.map_steps.proofs.Going.{run-within}
 use Rattle.sound_records.specs.Scan.{ownGood, domainGood, scan, opening}
 use Rattle.sound_records.proofs.GoingOn.{after-run}
 use Rattle.sound_records.proofs.Passing.{own-within, own-beyond, Counted, count-none, opening-at, count-run, count-end}

@@ -5,7 +5,7 @@ use Prim.Native.Nat.{_≤_, _-_}
 use mathlib.Core.Path.{_≡_, refl}
 use lib.ListN.{length}
 use Rattle.rules.specs.Sizes.{maxEndpoints}
-use Rattle.state.proofs.Rewriting.{Written, written-none, written-store, written-all}
+use Rattle.state_fields.proofs.Rewriting.{Written, written-none, written-store, written-all}
 use Rattle.sound_logs.specs.Faults.{ownerAmong}
 use Rattle.sound_logs.proofs.named.owners_among.Statement.{statement}
 use Rattle.sound_logs.proofs.named.owners_among.Tie as tie

@@ -1,0 +1,125 @@
+// Set-up: the state that a configuration starts with.
+ghost use mathlib.Core.Path.{_≡_};
+ghost use Rattle.rules.specs.Configuration.{good};
+ghost use Rattle.rules.specs.State.{trimmed, stateOf, start, zeroState};
+ghost use Rattle.rules.specs.Device.{setUp};
+ghost use Rattle.refinement.specs.Setting.{configured, started};
+use refinement::Given;
+use rules::Answer;
+use rules::DomainRange;
+use rules::InputRange;
+use rules::Refusal;
+use rules::Settings;
+use rules::State;
+use rules::sizes::FAULT_PLACES;
+use rules::sizes::MAX_ENDPOINTS;
+use rules::sizes::MAX_GUESTS;
+use rules::sizes::TABLE_WORDS;
+
+// The state with every number zero.
+pub fn zero_state() -> State
+    ensures { λ r. ⌜ r ≡ zeroState ⌝ }
+{
+    State {
+        settings: Settings {
+            guests: 0,
+            shares: [0; MAX_GUESTS],
+            firsts: [0; MAX_GUESTS],
+            lasts: [0; MAX_GUESTS],
+            mask: 0,
+            input: InputRange { start: 0, end: 0 },
+            domains: DomainRange { start: 0, end: 0 },
+        },
+        listed: 0,
+        endpoints: [0; MAX_ENDPOINTS],
+        owners: [0; MAX_ENDPOINTS],
+        attached: [0; MAX_ENDPOINTS],
+        domains: [0; MAX_ENDPOINTS],
+        live: 0,
+        logged: [0; MAX_GUESTS],
+        lost: [0; MAX_GUESTS],
+        reasons: [0; FAULT_PLACES],
+        flags: [0; FAULT_PLACES],
+        sources: [0; FAULT_PLACES],
+        addresses: [0; FAULT_PLACES],
+    }
+}
+
+// The settings with the places of guests that are not in use zero.
+fn trim(s: Settings) -> Settings
+    ensures { λ r. ⌜ r ≡ trimmed s ⌝ }
+{
+    let mut shares = s.shares;
+    let mut firsts = s.firsts;
+    let mut lasts = s.lasts;
+    for i in s.guests..MAX_GUESTS {
+        shares[i] = 0;
+        firsts[i] = 0;
+        lasts[i] = 0;
+    }
+    let mut next = s;
+    next.shares = shares;
+    next.firsts = firsts;
+    next.lasts = lasts;
+    next
+}
+
+// The state that a configuration starts with: all unattached, logs empty, and zero in the places after the last endpoint and
+// the last owner.
+fn start_state(s: Settings, endpoints: &[u32], owners: &[u8]) -> State
+    ensures { λ r. ⌜ r ≡ stateOf (configured s (now (endpoints .entry)) (now (owners .entry))) (start (configured s (now (endpoints .entry)) (now (owners .entry)))) ⌝ }
+{
+    let mut numbers: [u32; MAX_ENDPOINTS] = [0; MAX_ENDPOINTS];
+    let mut holders: [u8; MAX_ENDPOINTS] = [0; MAX_ENDPOINTS];
+    for i in 0..MAX_ENDPOINTS {
+        if i < endpoints.len() {
+            numbers[i] = endpoints[i];
+        }
+        if i < owners.len() {
+            holders[i] = owners[i];
+        }
+    }
+    let settings = trim(s);
+    let mut next = zero_state();
+    next.settings = settings;
+    next.listed = endpoints.len();
+    next.endpoints = numbers;
+    next.owners = holders;
+    next
+}
+
+// Whether the configuration is good.
+fn is_good(s: Settings, endpoints: &[u32], owners: &[u8]) -> bool
+    ensures { λ r. ⌜ r ≡ good (configured s (now (endpoints .entry)) (now (owners .entry))) ⌝ }
+{
+    let n = endpoints.len();
+    if n != owners.len() {
+        return false;
+    }
+    let set = config_settings::good_settings(s);
+    let lists = config_endpoints::good_lists(s, n, endpoints, owners);
+    set & lists
+}
+
+// Set-up: on a table of the right length and a good configuration, the start state, and every word of the table zero.
+pub fn set_up(settings: Settings, endpoints: &[u32], owners: &[u8], t: &mut [u64]) -> Given
+    ensures { λ r. ⌜ started r (now (t .exit)) ≡ setUp (configured settings (now (endpoints .entry)) (now (owners .entry))) (now (t .entry)) ⌝ }
+{
+    if t.len() != TABLE_WORDS {
+        return Given {
+            answer: Answer::Refused(Refusal::Unsound),
+            state: zero_state(),
+        };
+    }
+    if !is_good(settings, endpoints, owners) {
+        return Given {
+            answer: Answer::Refused(Refusal::BadConfiguration),
+            state: zero_state(),
+        };
+    }
+    table_remove::clear(t);
+    Given {
+        answer: Answer::Done,
+        state: start_state(settings, endpoints, owners),
+    }
+}

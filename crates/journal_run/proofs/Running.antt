@@ -1,0 +1,124 @@
+-- The records after the start, on sound state and table: what the calls on lent arrays tell of them, and what they keep.
+use Prim.Native.Nat.{ℕ, _*_, _≤_}
+use mathlib.Core.Path.{_≡_, refl, sym, ap, subst}
+use mathlib.Core.Bool.{Bool, true, not}
+use mathlib.Core.List.{List}
+use mathlib.Core.Option.{Option, some, none}
+use lib.ListN.{replicate}
+use Rattle.laws.proofs.Tests.{either-way}
+use Rattle.laws.proofs.Tables.{length-tab}
+use Rattle.rules.specs.declared.Guest.{Guest}
+use Rattle.rules.specs.declared.Access.{Access}
+use Rattle.rules.specs.declared.State.{State}
+use Rattle.rules.specs.Sizes.{faultSize, statusSize}
+use Rattle.rules.specs.Configuration.{Config, windowLast}
+use Rattle.rules.specs.State.{World, Device, Shaped, configOf, trimmed, stateOf, write}
+use Rattle.rules.specs.Device.{request, reset, fetch, Call, of-guest, access-by, Reply, numbered, caller, performed, step}
+use Rattle.rules.specs.Sound.{sound}
+use Rattle.rules.proofs.Claims.{calls-keep-sound}
+use Rattle.refinement.specs.Flat.{device}
+use Rattle.refinement.specs.Requesting.{requestFlat}
+use Rattle.refinement.proofs.Stepped.{request-step}
+use Rattle.refinement.proofs.Resetting.{reset-is-step}
+use Rattle.refinement.proofs.Fetching.{fetch-is-step}
+use Rattle.call_access.proofs.Stepping.{access-answered}
+use Rattle.journal_records.specs.declared.Item.{Item}
+use Rattle.journal_records.specs.declared.Item.the-variants.{Cut, Wrong, NamedGuest, NamedEndpoint, Start, Request, AccessBy, Reset, Fetch}
+use Rattle.journal_records.specs.Items.{front, requestBytes}
+use Rattle.journal_session.specs.declared.player.Player.{Player}
+use Rattle.journal_session.specs.declared.player.Turned.{Turned}
+use Rattle.journal_session.specs.Turns.{idle, playerDevice, fetchedTurn, running, turnOf, turn, requestedTurn, accessedTurn, clearedTurn}
+use Rattle.journal_session.specs.Telling.{Tells}
+use Rattle.journal_session.proofs.Telling.{tells-silent}
+use Rattle.journal_run.specs.declared.calls.Ran.{Ran}
+use Rattle.journal_run.specs.Running.{Ready, ranTo}
+use Rattle.refinement.specs.Translating.{accessFlat}
+use Rattle.refinement.specs.Resetting.{resetWhole}
+use Rattle.refinement.specs.Fetching.{fetchedFlat}
+
+-- a player that has started runs
+pub runs : (p : Player) → p .started ≡ true → running (p .state) ≡ p
+runs p e = ap (λ (z : Bool). record { started = z; state = p .state }) (sym e)
+
+-- WHAT A CALL KEEPS
+
+-- what is written has the lengths of a state's arrays
+write-shaped : (c : Config) (w : World) → Shaped (write c w .state)
+unfolding write stateOf trimmed
+write-shaped c w =
+    record {
+      shares = length-tab _ _;
+      firsts = length-tab _ _;
+      lasts = length-tab _ _;
+      endpoints = length-tab _ _;
+      owners = length-tab _ _;
+      attached = length-tab _ _;
+      domains = length-tab _ _;
+      logged = length-tab _ _;
+      lost = length-tab _ _;
+      reasons = length-tab _ _;
+      flags = length-tab _ _;
+      sources = length-tab _ _;
+      addresses = length-tab _ _;
+    }
+
+step-shaped : (d : Device) → Shaped (d .state) → (x : Call) → Shaped (step d x .1 .state)
+unfolding step performed
+step-shaped d k x =
+    either-way Kept (not (numbered (configOf (d .state)) x)) (λ _. k) (λ _. either-way Kept (not (sound d)) (λ _. k) (λ _. go (caller (configOf (d .state)) x)))
+  where
+    Kept : Reply × Device → Type 0
+    Kept r = Shaped (r .1 .state)
+
+    go : (m : Option Guest) → Kept (performed d m x)
+    go none = k
+    go (some g) = write-shaped _ _
+
+call-keeps : (d : Device) → Ready d → (x : Call) → Ready (step d x .1)
+call-keeps d h x = record { on = calls-keep-sound d (h .on) x; shape = step-shaped d (h .shape) x }
+
+module _ (s : State) (t b : List ℕ) (h : Ready (device s t)) where
+  item-keeps : (i : Item) → let x = turnOf (running s) t b i in Ready (playerDevice (x .player) (x .table))
+  unfolding turnOf
+  item-keeps Cut = h
+  item-keeps Wrong = h
+  item-keeps (NamedGuest f) = h
+  item-keeps (NamedEndpoint e g) = h
+  item-keeps (Start f) = h
+  item-keeps (Request g) = call-keeps (device s t) h (of-guest g (request (requestBytes b) (replicate statusSize 0)))
+  item-keeps (AccessBy a) = call-keeps (device s t) h (access-by a)
+  item-keeps (Reset g) = call-keeps (device s t) h (of-guest g reset)
+  item-keeps (Fetch g n) = call-keeps (device s t) h (of-guest g (fetch (replicate (faultSize * n) 0)))
+
+  -- what a record leaves is ready for the next
+  pub stays-ready : {r : Turned} {words out left : List ℕ} {k : ℕ} → Tells r words out left k (turn (running s) t b) → Ready (playerDevice (r .player) words)
+  unfolding turn
+  stays-ready tells = rw (tells .player, tells .words) (item-keeps (front b))
+
+-- WHAT IS TOLD OF A RECORD
+
+-- no record is worked
+pub tells-stop : (s : ℕ → State) {r : Ran} {live k : ℕ} {bad : Bool} {t out : List ℕ} → r ≡ record { live = live; read = 0; printed = 0; bad = bad } → Tells (ranTo (s (r .live)) r) t out out k (idle (running (s live)) t bad)
+tells-stop s e = rw e (tells-silent refl)
+
+module _ (s : State) (t b : List ℕ) {r : Turned} {words out left : List ℕ} {k : ℕ} where
+  pub told-item : {i : Item} → front b ≡ i → Tells r words out left k (turnOf (running s) t b i) → Tells r words out left k (turn (running s) t b)
+  unfolding turn
+  told-item e x = rw e x
+
+  module _ (h : Ready (device s t)) where
+    pub told-request : (g : Guest) → front b ≡ Request g → Tells r words out left k (requestedTurn b (requestFlat (device s t) g (requestBytes b) (replicate statusSize 0))) → Tells r words out left k (turn (running s) t b)
+    unfolding turnOf
+    told-request g e x = told-item e (subst (λ (y : Reply × Device). Tells r words out left k (requestedTurn b y)) (request-step (device s t) (h .on) (h .shape) g (requestBytes b) (replicate statusSize 0)) x)
+
+    pub told-access : ((i : ℕ) → windowLast (s .settings) i ≤ 18446744073709551615) → (a : Access) → front b ≡ AccessBy a → Tells r words out left k (accessedTurn b (accessFlat (device s t) a)) → Tells r words out left k (turn (running s) t b)
+    unfolding turnOf
+    told-access wide a e x = told-item e (subst (λ (y : Reply × Device). Tells r words out left k (accessedTurn b y)) (access-answered (device s t) (h .on) (h .shape) wide a) x)
+
+    pub told-reset : (g : Guest) → front b ≡ Reset g → Tells r words out left k (clearedTurn b (resetWhole (s .settings .guests) (device s t) g)) → Tells r words out left k (turn (running s) t b)
+    unfolding turnOf
+    told-reset g e x = told-item e (subst (λ (y : Reply × Device). Tells r words out left k (clearedTurn b y)) (reset-is-step (device s t) (h .on) (h .shape) g) x)
+
+    pub told-fetch : (g : Guest) (n : ℕ) → front b ≡ Fetch g n → Tells r words out left k (fetchedTurn b (fetchedFlat (s .settings .guests) (device s t) g (replicate (faultSize * n) 0))) → Tells r words out left k (turn (running s) t b)
+    unfolding turnOf
+    told-fetch g n e x = told-item e (subst (λ (y : Reply × Device). Tells r words out left k (fetchedTurn b y)) (fetch-is-step (device s t) (h .on) (h .shape) g (replicate (faultSize * n) 0)) x)

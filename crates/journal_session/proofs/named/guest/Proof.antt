@@ -1,0 +1,42 @@
+-- A guest is named before the start, where fewer than four are.
+use mathlib.Core.Path.{sym}
+use native.Mathlib.Omega.{arith}
+use borrow.Author.Needs.{needs}
+use Rattle.rules.specs.Sizes.{maxGuests}
+use Rattle.journal_session.specs.Turns.{turnOf}
+use Rattle.journal_session.proofs.Telling.{named-late, named-past, named-more}
+use Rattle.journal_session.proofs.named.guest.Statement.{statement}
+use Rattle.journal_session.proofs.named.guest.Tie as tie
+
+after-start : tie.Need-returns
+unfolding turnOf
+after-start c =
+    let a = c .before .before .before .before .before .args in
+    named-late (a .p) (a .p .state .settings .guests) maxGuests (a .s .now) _ (c .before .if1 .taken) (c .idle .ensures)
+
+too-many : tie.Need-returns-2
+unfolding turnOf
+too-many c =
+    let a = c .before .before .before .before .before .before .before .args in
+    named-past (a .p) (a .p .state .settings .guests) maxGuests (a .s .now) _ (omega arith) (c .idle2 .ensures)
+
+one-more : tie.Need-returns-3
+unfolding turnOf
+one-more c =
+    let n = c .before .before in
+    let i = n .before in
+    let a = i .before .before .before .before .before .before .args in
+    named-more (a .p) (a .p .state .settings .guests) maxGuests (a .s .now) _ (i .before .before .if1 .left) (omega arith) _ (c .before .size-of .ensures) (rw (sym (n .name-guest .ensures)) (c .consumed .ensures))
+
+pub guest-spec : {M : Type 1} → statement M
+guest-spec =
+    tie.close
+    (tie.spec
+    (λ c κs. search needs)
+    after-start
+    (λ c κs. search needs)
+    too-many
+    (λ c κs. search needs)
+    (λ c κs. search needs)
+    (λ c κs. search needs)
+    one-more)

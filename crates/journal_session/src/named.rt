@@ -1,0 +1,50 @@
+// Records that name a guest or an endpoint.
+ghost use mathlib.Core.List.{List};
+ghost use Prim.Native.Nat.{ℕ};
+ghost use Rattle.journal_records.specs.declared.Item.the-variants.{NamedGuest, NamedEndpoint};
+ghost use Rattle.journal_session.specs.Turns.{turnOf};
+ghost use Rattle.journal_session.specs.Telling.{Tells};
+use crate::naming;
+use crate::player::Player;
+use crate::player::Turned;
+use crate::results::consumed;
+use crate::results::idle;
+use journal_records::GuestFields;
+use rules::Endpoint;
+use rules::Guest;
+use rules::sizes::MAX_ENDPOINTS;
+use rules::sizes::MAX_GUESTS;
+
+// A guest is named, unless it is the fifth or the journal has started.
+pub fn guest(p: Player, s: &[u8], f: GuestFields) -> Turned
+    ensures { λ r. ⌜ ((t out : List ℕ) (k : ℕ) → Tells r t out out k (turnOf p t (now (s .entry)) (NamedGuest f))) ⌝ }
+{
+    let state = p.state;
+    let settings = state.settings;
+    if p.started {
+        return idle(p, true);
+    }
+    if settings.guests >= MAX_GUESTS {
+        return idle(p, true);
+    }
+    consumed(false, naming::name_guest(state, f), journal_records::size_of(s), 0)
+}
+
+// An endpoint is named, unless it is the 33rd or the journal has started.
+pub fn endpoint(p: Player, s: &[u8], e: Endpoint, g: Guest) -> Turned
+    ensures { λ r. ⌜ ((t out : List ℕ) (k : ℕ) → Tells r t out out k (turnOf p t (now (s .entry)) (NamedEndpoint e g))) ⌝ }
+{
+    let state = p.state;
+    if p.started {
+        return idle(p, true);
+    }
+    if state.listed >= MAX_ENDPOINTS {
+        return idle(p, true);
+    }
+    consumed(
+        false,
+        naming::name_endpoint(state, e, g),
+        journal_records::size_of(s),
+        0,
+    )
+}

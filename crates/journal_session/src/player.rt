@@ -1,0 +1,32 @@
+// How far a journal has come.
+ghost use mathlib.Core.Path.{_≡_};
+ghost use Rattle.journal_session.specs.Turns as turns;
+use journal_line_fetch::FETCH_ROOM;
+use rules::State;
+
+// The bytes that the lines of one record may take: a fetch's are the most.
+pub const RECORD_ROOM: usize = FETCH_ROOM;
+
+// Before the start the state holds the configuration named so far, in the places that set-up fills; after it, the device's state.
+pub struct Player {
+    pub started: bool,
+    pub state: State,
+}
+
+// What records leave: the player, the bytes read (0 where no record is worked) and printed, and whether the journal is bad there.
+pub struct Turned {
+    pub player: Player,
+    pub read: usize,
+    pub printed: usize,
+    pub bad: bool,
+}
+
+// Before the first record nothing is named.
+pub fn fresh() -> Player
+    ensures { λ r. ⌜ r ≡ turns.fresh ⌝ }
+{
+    Player {
+        started: false,
+        state: call_setup::zero_state(),
+    }
+}

@@ -1,0 +1,52 @@
+-- A request on the state's arrays and the table's words, as the code works it.
+use Prim.Native.Nat.{ℕ}
+use mathlib.Core.Bool.{cond}
+use mathlib.Core.List.{List, [], _∷_}
+use mathlib.Core.Option.{Option, some, none}
+use lib.Dec.{ltb}
+use lib.ListN.{length}
+use Rattle.laws.specs.Lists.{firstFailing}
+use Rattle.rules.specs.declared.Guest.{Guest}
+use Rattle.rules.specs.declared.Domain.{Domain}
+use Rattle.rules.specs.declared.Mapping.{Mapping}
+use Rattle.rules.specs.declared.Answer.the-variants.{Served, Refused}
+use Rattle.rules.specs.declared.Refusal.{Refusal}
+use Rattle.rules.specs.declared.Refusal.the-variants.{NoSuchGuest}
+use Rattle.rules.specs.Sizes.{statusSize}
+use Rattle.rules.specs.Requests.{DEVERR, requestRefusals}
+use Rattle.rules.specs.State.{Device}
+use Rattle.rules.specs.Table.{keyOf, mapping}
+use Rattle.rules.specs.Device.{Reply}
+use Rattle.wire_requests.specs.Parsed.{asked}
+use Rattle.wire_requests.specs.declared.request.Request.{Request}
+use Rattle.wire_requests.specs.declared.request.Request.the-variants.{Attach, Detach, Map, Unmap}
+use Rattle.wire_requests.specs.declared.request.Request.the-variants as Q
+use Rattle.wire_requests.specs.declared.request.MapFields.{MapFields}
+use Rattle.refinement.specs.Flat.{Worked, worked, attachFlat, detachFlat, mapPlaced, unmapFlat}
+
+-- the record that a MAP request of guest g asks for
+abbrev pub recordOf : Guest → Domain → MapFields → Mapping
+recordOf g d f = mapping (keyOf g d) (f .start) (f .end) (f .phys) (f .flags)
+
+-- what the handler of a parsed request gives, by its case; a refused one has none
+unfoldable pub handled : Device → Guest → Request → Worked
+handled d g (Q.Refused a) = worked DEVERR d
+handled d g (Attach dom e z) = attachFlat d g dom e z
+handled d g (Detach dom e z) = detachFlat d g dom e z
+handled d g (Map dom f) = mapPlaced d g dom (recordOf g dom f)
+handled d g (Unmap dom f) = unmapFlat d g dom (f .start) (f .end) (f .reserved)
+
+-- a refused request, and one that is worked: the status and three zeros
+abbrev pub refusedFlat : Device → List ℕ → Refusal → Reply × Device
+refusedFlat d b e = (record { answer = Refused e; buffer = b }, d)
+
+abbrev pub servedFlat : Worked → Reply × Device
+servedFlat x = (record { answer = Served statusSize; buffer = x .status ∷ 0 ∷ 0 ∷ 0 ∷ [] }, x .left)
+
+unfoldable pub unlessRefused : Device → Guest → List ℕ → List ℕ → Option Refusal → Reply × Device
+unlessRefused d g r b (some e) = refusedFlat d b e
+unlessRefused d g r b none = servedFlat (handled d g (asked r))
+
+-- the guest's number, the request's own refusals, then its handler
+unfoldable pub requestFlat : Device → Guest → List ℕ → List ℕ → Reply × Device
+requestFlat d g r b = cond (ltb (g .0) (d .state .settings .guests)) (unlessRefused d g r b (firstFailing (requestRefusals r (length b)))) (refusedFlat d b NoSuchGuest)

@@ -1,0 +1,53 @@
+// The bytes of a fault record.
+use rules::Fault;
+use rules::sizes::FAULT_SIZE;
+use wire_numbers::copying::copy_in;
+ghost use mathlib.Core.Path.{_≡_};
+ghost use mathlib.Core.Bool.{cond};
+ghost use mathlib.Core.List.{_++_};
+ghost use Prim.Native.Nat.{_+_, _≤_};
+ghost use lib.Dec.{leb};
+ghost use lib.ListN.{length, take, drop};
+ghost use Rattle.laws.specs.Bytes.{leBytes};
+ghost use Rattle.rules.specs.Sizes.{faultSize};
+ghost use Rattle.rules.specs.Access.{faultBytes};
+
+// Each byte of a fault record that no field takes.
+const RESERVED: u8 = 0;
+
+// The n bytes from byte k on become the lowest n of x, the lowest first.
+fn put_number(bytes: &mut [u8], k: usize, n: usize, x: u64)
+    requires { ⌜ k + n ≤ length (now bytes) ⌝ }
+    ensures { λ _. ⌜ now (bytes .exit) ≡ take k (now (bytes .entry)) ++ (leBytes n x ++ drop (k + n) (now (bytes .entry))) ⌝ }
+{
+    let mut rest = x;
+    for i in 0..n {
+        bytes[k + i] = (rest % 256) as u8;
+        rest = rest / 256;
+    }
+}
+
+// The 24 bytes of a fault record.
+fn fault_bytes(f: Fault) -> [u8; FAULT_SIZE]
+    ensures { λ r. ⌜ r ≡ faultBytes f ⌝ }
+{
+    let flags = f.flags as u64;
+    let endpoint = f.endpoint.0 as u64;
+    let address = f.address;
+    let mut bytes = [RESERVED; FAULT_SIZE];
+    bytes[0] = f.reason;
+    put_number(&mut bytes, 4, 4, flags);
+    put_number(&mut bytes, 8, 4, endpoint);
+    put_number(&mut bytes, 16, 8, address);
+    bytes
+}
+
+// The first 24 bytes of out become the record of f; an out of fewer bytes stays.
+pub fn put_fault(out: &mut [u8], f: Fault)
+    ensures { λ _. ⌜ now (out .exit) ≡ cond (leb faultSize (length (now (out .entry)))) (faultBytes f ++ drop faultSize (now (out .entry))) (now (out .entry)) ⌝ }
+{
+    if FAULT_SIZE <= out.len() {
+        let bytes = fault_bytes(f);
+        copy_in(out, &bytes);
+    }
+}
