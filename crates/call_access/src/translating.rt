@@ -10,7 +10,7 @@ ghost use Rattle.state_fields.specs.Fields.{withEndpoints};
 ghost use Rattle.refinement.specs.Flat.{device, answerOf};
 ghost use Rattle.refinement.specs.Translating.{inWords, answered};
 use table_lookup::Found;
-use call_moves_::key_of;
+use table_record::key_of;
 use rules::Access;
 use rules::Answer;
 use rules::Cause;

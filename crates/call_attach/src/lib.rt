@@ -1,4 +1,6 @@
 // ATTACH and DETACH, on lent arrays of the state and the table's words.
+mod moving;
+
 ghost use mathlib.Core.Path.{_≡_};
 ghost use mathlib.Core.Bool.{_&&_};
 ghost use lib.Dec.{ltb, eqb};
@@ -91,7 +93,7 @@ pub fn handle_attach<'a>(
     if status != OK {
         return Handled { status, live };
     }
-    let kept = call_moves_::move_to(live, owners, attached, domains, t, g, i, d);
+    let kept = moving::move_to(live, owners, attached, domains, t, g, i, d);
     Handled {
         status: OK,
         live: kept,
@@ -167,7 +169,7 @@ pub fn handle_detach<'a>(
     if status != OK {
         return Handled { status, live };
     }
-    let kept = call_moves_::leave(live, owners, attached, domains, t, g, i, d);
+    let kept = moving::leave(live, owners, attached, domains, t, g, i, d);
     Handled {
         status: OK,
         live: kept,

@@ -9,7 +9,7 @@ use Rattle.rules.specs.declared.State.{State}
 use Rattle.rules.specs.declared.Answer.the-variants.{Fetched, Refused}
 use Rattle.rules.specs.declared.Refusal.the-variants.{NoSuchGuest, Unsound}
 use Rattle.rules.specs.Sizes.{maxGuests, maxFaults}
-use Rattle.state_drop_.specs.Changes.{faultsDropped}
+use Rattle.state_log.specs.Dropped.{faultsDropped}
 use Rattle.refinement.specs.Flat.{fetchCount, fetchBytes}
 use Rattle.refinement.specs.Fetching.{fetched, unfetched, fetchFlat}
 

@@ -47,7 +47,7 @@ pub fn fetch_faults<'a>(
     }
     let n = least(held, buffer.len() / FAULT_SIZE);
     putting::put_faults(reasons, flags, sources, addresses, g, n, buffer);
-    state_drop_::drop_faults(logged, reasons, flags, sources, addresses, g, n);
+    state_log::drop_faults(logged, reasons, flags, sources, addresses, g, n);
     Answer::Fetched(n)
 }
 

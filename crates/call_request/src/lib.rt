@@ -74,7 +74,7 @@ fn handle<'a>(
         }
         Request::Map(d, f) => {
             let r = Mapping {
-                key: call_moves_::key_of(g, d),
+                key: table_record::key_of(g, d),
                 start: f.start,
                 end: f.end,
                 phys: f.phys,
@@ -140,7 +140,7 @@ pub fn serve<'a>(
         g,
         q,
     );
-    wire_numbers::status::put_status(writable, h.status);
+    wire_requests::status::put_status(writable, h.status);
     Performed {
         answer: Answer::Served(STATUS_SIZE),
         live: h.live,

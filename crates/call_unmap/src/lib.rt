@@ -5,7 +5,7 @@ ghost use Rattle.rules.specs.declared.State.{State};
 ghost use Rattle.state_fields.specs.Fields.{withDomains};
 ghost use Rattle.refinement.specs.Flat.{device, worked, unmapStatus, unmapFlat};
 use refinement::Handled;
-use call_moves_::key_of;
+use table_record::key_of;
 use rules::Domain;
 use rules::Guest;
 use rules::requests::INVAL;

@@ -42,7 +42,7 @@ use Rattle.rules.specs.State.{Shaped}
 use Rattle.rules.proofs.Refusals.{sound-step}
 use Rattle.rules.proofs.Unchanged.{kept-is, written, still}
 use Rattle.state_log.specs.Changes.{faultLogged}
-use Rattle.state_drop_.specs.Changes.{faultsDropped}
+use Rattle.state_log.specs.Dropped.{faultsDropped}
 use Rattle.state_endpoints.specs.Search.{indexOf}
 use Rattle.refinement.specs.Flat.{device, placeOfEndpoint, isAttached, liveRecords, answerOf, decisionAt, decision, afterAccess, fetchCount, fetchBytes, ownerAt}
 use Rattle.refinement.proofs.Places.{owner-at}

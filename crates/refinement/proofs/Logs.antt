@@ -23,7 +23,7 @@ use Rattle.rules.proofs.Groups.{good-facts}
 use Rattle.rules.proofs.Worlds.{Whole}
 use Rattle.state_fields.specs.Fields.{withCounts}
 use Rattle.state_log.specs.Changes.{faultStored, faultLogged}
-use Rattle.state_drop_.specs.Changes.{shifted, shiftedAll, faultsDropped}
+use Rattle.state_log.specs.Dropped.{shifted, shiftedAll, faultsDropped}
 use Rattle.state_reset.specs.Changes.{zeroOf, zeroedOf, endpointsDetached, logCleared, guestCleared}
 use Rattle.refinement.proofs.Places.{all-detached}
 use Rattle.refinement.proofs.Written.{withAtts, withLogs, set-tab}

@@ -40,7 +40,7 @@ use Rattle.rules.proofs.Soundness.{write-sound}
 use Rattle.rules.proofs.Share.{room-within-share}
 use Rattle.table_remove.specs.Removed.{within}
 use Rattle.state_log.specs.Changes.{faultLogged}
-use Rattle.state_drop_.specs.Changes.{faultsDropped}
+use Rattle.state_log.specs.Dropped.{faultsDropped}
 use Rattle.state_reset.specs.Changes.{guestCleared}
 use Rattle.state_endpoints.specs.Search.{indexOf}
 use Rattle.refinement.specs.Flat.{device, worked, placeOfEndpoint, ownedAt, isAttached, existsFlat, liveRecords, removed, inserted, left, entered, moved, settled, attachStatus, attachFlat, detachStatus, detachFlat, mapStatus, mapFlat, unmapStatus, unmapFlat, resetFlat}

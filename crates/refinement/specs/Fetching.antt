@@ -12,7 +12,7 @@ use Rattle.rules.specs.declared.Refusal.{Refusal}
 use Rattle.rules.specs.declared.Refusal.the-variants.{NoSuchGuest, Unsound}
 use Rattle.rules.specs.State.{Device}
 use Rattle.rules.specs.Device.{Reply}
-use Rattle.state_drop_.specs.Changes.{faultsDropped}
+use Rattle.state_log.specs.Dropped.{faultsDropped}
 use Rattle.refinement.specs.Flat.{device, fetchCount, fetchBytes}
 
 -- n of guest g's faults given and gone

@@ -1,4 +1,8 @@
 // A fault logged for a guest, and the count of those that it lost.
+mod dropping;
+mod shifting;
+
+pub use dropping::drop_faults;
 ghost use mathlib.Core.Path.{_≡_};
 ghost use lib.ListN.{getD};
 ghost use Rattle.rules.specs.declared.State.{State};

@@ -10,7 +10,7 @@ use lib.ListN.{length, getD, set, List·getD-eq-default}
 use borrow.Author.Tests.{lt-ltb, le-ltb, eq-eqb, ne-eqb}
 use Rattle.rules.specs.declared.Guest.{Guest}
 use Rattle.state_fields.proofs.Rewriting.{Written, written-none, written-keep, written-to}
-use Rattle.state_drop_.proofs.Storing.{store-any}
+use Rattle.state_log.proofs.Storing.{store-any}
 use Rattle.state_reset.specs.Changes.{zeroOf, zeroedOf}
 
 -- of an array with a place for each endpoint, l, the places below i are as they are when the endpoints of guest g are detached

@@ -9,7 +9,7 @@ use Rattle.rules.specs.Sizes.{maxGuests, maxEndpoints, maxFaults}
 use Rattle.rules.specs.declared.Guest.{Guest}
 use Rattle.rules.specs.declared.State.{State}
 use Rattle.state_fields.specs.Fields.{withAttached, withLogs}
-use Rattle.state_drop_.specs.Changes.{shiftedAll}
+use Rattle.state_log.specs.Dropped.{shiftedAll}
 
 -- an array with zero at the places, below the count, whose owner is g
 unfoldable pub zeroOf : ℕ → Guest → List ℕ → List ℕ → ℕ → ℕ

@@ -24,7 +24,7 @@ pub fn clear_log<'a>(
     ensures { λ _. ⌜ ((s : State) → withLogs (now (logged .exit)) (now (lost .exit)) (now (reasons .exit)) (now (flags .exit)) (now (sources .exit)) (now (addresses .exit)) s ≡ logCleared (withLogs (now (logged .entry)) (now (lost .entry)) (now (reasons .entry)) (now (flags .entry)) (now (sources .entry)) (now (addresses .entry)) s) g) ⌝ }
 {
     let guest = g.0 as usize;
-    state_drop_::drop_faults(logged, reasons, flags, sources, addresses, g, MAX_FAULTS);
+    state_log::drop_faults(logged, reasons, flags, sources, addresses, g, MAX_FAULTS);
     if guest < MAX_GUESTS {
         logged[guest] = 0;
         lost[guest] = 0;

@@ -14,8 +14,8 @@ use Rattle.rules.specs.Table.{records, words, tableOf, before, insertMapping}
 use Rattle.rules.proofs.Words.{length-records}
 use Rattle.rules.proofs.Records.{length-insert}
 use Rattle.table_record.specs.Records.{spare}
-use Rattle.table_write_.proofs.Words.{words-append, drop-words}
-use Rattle.table_write_.proofs.Tables.{length-table, table-live, table-drop, table-is}
+use Rattle.table_record.proofs.Stored.{words-append, drop-words}
+use Rattle.table_record.proofs.Tables.{length-table, table-live, table-drop, table-is}
 use Rattle.table_insert.specs.Inserted.{placeOfMapping, insertAt, insertedWords}
 
 -- a record in its place

@@ -6,7 +6,7 @@ ghost use lib.ListN.{length, take, drop};
 ghost use Rattle.rules.specs.Table.{records, words, before};
 ghost use Rattle.table_record.specs.Records.{spare};
 ghost use Rattle.table_insert.specs.Inserted.{placeOfMapping, insertAt, insertedWords};
-use table_write_::write;
+use table_record::write;
 use rules::Mapping;
 use rules::sizes::RECORD_WORDS;
 

@@ -14,7 +14,7 @@ use Rattle.rules.specs.Table.{records, words, tableOf}
 use Rattle.rules.proofs.Words.{length-records}
 use Rattle.table_record.specs.Records.{spare}
 use Rattle.table_record.proofs.Words.{five, split-words}
-use Rattle.table_write_.proofs.Tables.{table-live, table-drop, table-is}
+use Rattle.table_record.proofs.Tables.{table-live, table-drop, table-is}
 use Rattle.table_remove.specs.Removed.{within, keptOf, removedWords}
 use Rattle.table_remove.proofs.Closing.{take-bounded, filled}
 

@@ -5,7 +5,7 @@ ghost use lib.ListN.{length, take, drop, replicate};
 ghost use Rattle.rules.specs.Sizes.{recordWords};
 ghost use Rattle.rules.specs.Table.{records, words};
 ghost use Rattle.table_remove.specs.Removed.{within, keptOf, removedWords};
-use table_write_::write;
+use table_record::write;
 use rules::Mapping;
 use rules::sizes::RECORD_WORDS;
 

@@ -29,7 +29,7 @@ pub extern "C" fn viommu_lost(s: State, g: Guest) -> u32
 pub extern "C" fn viommu_readable_length(kind: u8) -> usize
     ensures { λ r. ⌜ r ≡ readableLength kind ⌝ }
 {
-    wire_lengths_::readable_length(kind)
+    wire_requests::readable_length(kind)
 }
 
 // The number of bytes that a request of this type has in its writable part.
@@ -37,5 +37,5 @@ pub extern "C" fn viommu_readable_length(kind: u8) -> usize
 pub extern "C" fn viommu_writable_length(kind: u8) -> usize
     ensures { λ r. ⌜ r ≡ writableLength kind ⌝ }
 {
-    wire_lengths_::writable_length(kind)
+    wire_requests::writable_length(kind)
 }

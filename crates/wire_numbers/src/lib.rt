@@ -1,4 +1,3 @@
-// Numbers in bytes, the bytes of statuses, and bytes copied.
+// Numbers in bytes, and bytes copied.
 pub mod copying;
 pub mod fields;
-pub mod status;

@@ -128,8 +128,8 @@ pub fn parse(readable: &[u8], writable: usize) -> Request
     let kind = readable[0];
     match kind {
         ATTACH..=UNMAP => {
-            let readable_length = wire_lengths_::readable_length(kind);
-            let writable_length = wire_lengths_::writable_length(kind);
+            let readable_length = crate::lengths::readable_length(kind);
+            let writable_length = crate::lengths::writable_length(kind);
             if (readable.len() == readable_length) & (writable == writable_length) {
                 taken_apart(readable, kind)
             } else {

@@ -8,7 +8,7 @@ use lib.Seq.{set-set}
 use Rattle.rules.specs.Sizes.{maxGuests, maxFaults}
 use Rattle.rules.specs.declared.State.{State}
 use Rattle.state_fields.specs.Fields.{withCounts, withLogs}
-use Rattle.state_drop_.specs.Changes.{faultsDropped}
+use Rattle.state_log.specs.Dropped.{faultsDropped}
 use Rattle.state_reset.specs.Changes.{logCleared}
 use Rattle.state_reset.proofs.clear_log.Statement.{statement}
 use Rattle.state_reset.proofs.clear_log.Tie as tie

@@ -7,7 +7,7 @@ use lib.ListN.{length, getD, set}
 use Rattle.rules.specs.Table.{records}
 use Rattle.table_record.specs.Records.{noMapping, spare}
 use Rattle.table_insert.proofs.Carrying.{shifted, carry, put-down}
-use Rattle.table_write_.proofs.Words.{same-records, wrote}
+use Rattle.table_record.proofs.Stored.{same-records, wrote}
 use Rattle.table_insert.proofs.shift_in.Statement.{statement}
 use Rattle.table_insert.proofs.shift_in.Tie as tie
 

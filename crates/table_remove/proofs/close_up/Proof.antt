@@ -14,7 +14,7 @@ use Rattle.rules.specs.Table.{records, words}
 use Rattle.table_record.specs.Records.{noMapping, spare}
 use Rattle.table_remove.specs.Removed.{within, keptOf}
 use Rattle.table_record.proofs.Laws.{gone, keep-no}
-use Rattle.table_write_.proofs.Words.{same-records, wrote, drop-words}
+use Rattle.table_record.proofs.Stored.{same-records, wrote, drop-words}
 use Rattle.table_remove.proofs.Closing.{close-up}
 use Rattle.table_remove.proofs.Removed.{take-words}
 use Rattle.table_remove.proofs.close_up.Statement.{statement}

@@ -1,0 +1,12 @@
+-- `call_attach::exists` meets its contract. Assumes nothing.
+use borrow.Author.Needs.{needs}
+use Rattle.refinement.specs.Flat.{existsFlat}
+use Rattle.call_attach.proofs.moving.exists.Statement.{statement}
+use Rattle.call_attach.proofs.moving.exists.Tie as tie
+
+returns : tie.Need-returns
+unfolding existsFlat
+returns c s = c .domain-exists .ensures
+
+pub exists-spec : {M : Type 1} → statement M
+exists-spec = tie.close (tie.spec (λ c κs. search needs) returns)
