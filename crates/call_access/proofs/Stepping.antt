@@ -21,7 +21,7 @@ use Rattle.rules.specs.declared.Access.{Access}
 use Rattle.rules.specs.Sizes.{maxEndpoints, topAddress}
 use Rattle.rules.specs.Configuration.{windowLast}
 use Rattle.rules.specs.Table.{keyOf}
-use Rattle.rules.specs.State.{Device, Shaped, configOf, read}
+use Rattle.rules.specs.State.{Device, Lengths, configOf, read}
 use Rattle.rules.specs.Guests.{own, part, recordsOf}
 use Rattle.rules.specs.Handlers.{formSteps}
 use Rattle.rules.specs.Access.{permits, findMapping}
@@ -35,11 +35,11 @@ use Rattle.rules.proofs.Accesses.{permits-covers}
 use Rattle.rules.proofs.Reading.{sound-whole}
 use Rattle.rules.proofs.Refusals.{unsound}
 use Rattle.rules.proofs.Shape.{small-count}
-use Rattle.refinement.specs.Flat.{device, ownerAt, placeOfEndpoint, liveRecords, answerOf, decisionAt, decision, afterAccess}
-use Rattle.refinement.specs.Translating.{inWords, answered, accessFlat}
+use Rattle.refinement.specs.Flat.{device, ownerAt, endpointIndex, liveRecords, answerOf, decisionAt, decision, afterAccess}
+use Rattle.refinement.specs.Translating.{inWords, answered, accessWhole}
 use Rattle.refinement.proofs.Answered.{access-step}
 
-module _ (d : Device) (h : sound d ≡ true) (k : Shaped (d .state)) (wide : (i : ℕ) → windowLast (d .state .settings) i ≤ 18446744073709551615) where
+module _ (d : Device) (h : sound d ≡ true) (k : Lengths (d .state)) (wide : (i : ℕ) → windowLast (d .state .settings) i ≤ 18446744073709551615) where
   -- the last address that a record leads to is one of 64 bits
   abbrev lands : Mapping → Bool
   lands r = leb (r .phys + r .end - r .start) 18446744073709551615
@@ -68,7 +68,7 @@ module _ (d : Device) (h : sound d ≡ true) (k : Shaped (d .state)) (wide : (i 
   answer-decides x = rw (le-leb (d .state .listed) maxEndpoints (small-count d h k)) (go (ltb place (d .state .listed)) (eqb (getD (d .state .attached) place 0) 1) (findMapping key x (liveRecords d)) refl)
     where
       place : ℕ
-      place = placeOfEndpoint (d .state) (x .endpoint)
+      place = endpointIndex (d .state) (x .endpoint)
 
       key : ℕ
       key = keyOf (ownerAt (d .state) place) (record { 0 = getD (d .state .domains) place 0 })
@@ -80,7 +80,7 @@ module _ (d : Device) (h : sound d ≡ true) (k : Shaped (d .state)) (wide : (i 
       go true true none e = refl
       go true true (some r) e = rw (le-leb (x .address - r .start + r .phys) topAddress (lands-fit x key r e))
 
-  pub access-answered : (x : Access) → accessFlat d x ≡ step d (access-by x)
+  pub access-answered : (x : Access) → accessWhole d x ≡ step d (access-by x)
   access-answered x = rw (answer-decides x) (sym (access-step d h k x))
 
 -- the entry at its returns
@@ -88,6 +88,6 @@ module _ (d : Device) (x : Access) (t : Bool) (i : t ≡ sound d) where
   pub access-unsound : not t ≡ true → (record { answer = Refused Unsound; buffer = [] }, d) ≡ step d (access-by x)
   access-unsound f = sym (unsound d (access-by x) refl (sym i ∙ not-true t f))
 
-  pub access-works : not t ≡ false → Shaped (d .state) → ((i : ℕ) → windowLast (d .state .settings) i ≤ 18446744073709551615) → (a : Answer) → a ≡ answered d x
+  pub access-works : not t ≡ false → Lengths (d .state) → ((i : ℕ) → windowLast (d .state .settings) i ≤ 18446744073709551615) → (a : Answer) → a ≡ answered d x
       → (record { answer = a; buffer = [] }, device (afterAccess (d .state) x a) (d .table)) ≡ step d (access-by x)
   access-works f k wide a y = rw y (access-answered d (sym i ∙ not-false t f) k wide x)

@@ -81,7 +81,7 @@ pub(crate) fn report_fault<'a>(
 )
     ensures { λ _. ⌜ ((s : State) → withLists listed (now (endpoints .entry)) (now (owners .entry)) (withLogs (now (logged .exit)) (now (lost .exit)) (now (reasons .exit)) (now (flags .exit)) (now (sources .exit)) (now (addresses .exit)) s) ≡ afterAccess (withLists listed (now (endpoints .entry)) (now (owners .entry)) (withLogs (now (logged .entry)) (now (lost .entry)) (now (reasons .entry)) (now (flags .entry)) (now (sources .entry)) (now (addresses .entry)) s)) a (Blocked cause)) ⌝ }
 {
-    let i = state_endpoints::place_of(listed, endpoints, a.endpoint);
+    let i = state_endpoints::index_of(listed, endpoints, a.endpoint);
     let owner = owner_at(owners, i);
     let f = fault_of(cause, a);
     log_fault(logged, lost, reasons, flags, sources, addresses, owner, f);

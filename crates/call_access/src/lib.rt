@@ -9,7 +9,7 @@ ghost use Rattle.rules.specs.Device.{step, access-by};
 ghost use Rattle.refinement.specs.Flat.{device};
 ghost use Rattle.refinement.specs.Replied.{replied};
 use blocked::report_fault;
-use refinement::Given;
+use refinement::CallResult;
 pub use making::make_access;
 use rules::Access;
 use rules::Answer;
@@ -18,7 +18,7 @@ use rules::State;
 pub use translating::translate;
 
 // An access. One that is blocked is logged.
-pub fn access(s: State, t: &[u64], a: Access) -> Given
+pub fn access(s: State, t: &[u64], a: Access) -> CallResult
     ensures { λ r. ⌜ replied r [] (now (t .entry)) ≡ step (device s (now (t .entry))) (access-by a) ⌝ }
 {
     let settings = s.settings;
@@ -38,7 +38,7 @@ pub fn access(s: State, t: &[u64], a: Access) -> Given
         &s.addresses,
         t,
     ) {
-        return Given {
+        return CallResult {
             answer: Answer::Refused(Refusal::Unsound),
             state: s,
         };
@@ -80,10 +80,10 @@ pub fn access(s: State, t: &[u64], a: Access) -> Given
         next.flags = flags;
         next.sources = sources;
         next.addresses = addresses;
-        return Given {
+        return CallResult {
             answer,
             state: next,
         };
     }
-    Given { answer, state: s }
+    CallResult { answer, state: s }
 }

@@ -56,7 +56,7 @@ pub fn translate<'a>(
     if MAX_ENDPOINTS < listed {
         return Answer::Refused(Refusal::Unsound);
     }
-    let i = state_endpoints::place_of(listed, endpoints, a.endpoint);
+    let i = state_endpoints::index_of(listed, endpoints, a.endpoint);
     if i >= listed {
         return Answer::Refused(Refusal::UnknownEndpoint);
     }

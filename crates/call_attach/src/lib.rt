@@ -8,8 +8,8 @@ ghost use lib.ListN.{getD};
 ghost use Rattle.rules.specs.Handlers.{statusOf, outside, attachChain, detachChain};
 ghost use Rattle.rules.specs.declared.State.{State};
 ghost use Rattle.state_fields.specs.Fields.{withSettings, withLists, withEndpoints};
-ghost use Rattle.refinement.specs.Flat.{device, worked, attachStatus, attachFlat, detachStatus, detachFlat};
-use refinement::Handled;
+ghost use Rattle.refinement.specs.Flat.{device, withStatus, attachStatus, attachFlat, detachStatus, detachFlat};
+use refinement::HandlerResult;
 use rules::Domain;
 use rules::DomainRange;
 use rules::Endpoint;
@@ -85,16 +85,16 @@ pub fn handle_attach<'a>(
     d: Domain,
     e: Endpoint,
     reserved: u64,
-) -> Handled
-    ensures { λ r. ⌜ ((s : State) → worked (r .status) (device (withSettings settings (withEndpoints listed (now (endpoints .entry)) (now (owners .entry)) (now (attached .exit)) (now (domains .exit)) (r .live) s)) (now (t .exit))) ≡ attachFlat (device (withSettings settings (withEndpoints listed (now (endpoints .entry)) (now (owners .entry)) (now (attached .entry)) (now (domains .entry)) live s)) (now (t .entry))) g d e reserved) ⌝ }
+) -> HandlerResult
+    ensures { λ r. ⌜ ((s : State) → withStatus (r .status) (device (withSettings settings (withEndpoints listed (now (endpoints .entry)) (now (owners .entry)) (now (attached .exit)) (now (domains .exit)) (r .live) s)) (now (t .exit))) ≡ attachFlat (device (withSettings settings (withEndpoints listed (now (endpoints .entry)) (now (owners .entry)) (now (attached .entry)) (now (domains .entry)) live s)) (now (t .entry))) g d e reserved) ⌝ }
 {
-    let i = state_endpoints::place_of(listed, endpoints, e);
+    let i = state_endpoints::index_of(listed, endpoints, e);
     let status = attach_status(settings, listed, owners, g, d, i, reserved);
     if status != OK {
-        return Handled { status, live };
+        return HandlerResult { status, live };
     }
     let kept = moving::move_to(live, owners, attached, domains, t, g, i, d);
-    Handled {
+    HandlerResult {
         status: OK,
         live: kept,
     }
@@ -161,16 +161,16 @@ pub fn handle_detach<'a>(
     d: Domain,
     e: Endpoint,
     reserved: u64,
-) -> Handled
-    ensures { λ r. ⌜ ((s : State) → worked (r .status) (device (withEndpoints listed (now (endpoints .entry)) (now (owners .entry)) (now (attached .exit)) (now (domains .exit)) (r .live) s) (now (t .exit))) ≡ detachFlat (device (withEndpoints listed (now (endpoints .entry)) (now (owners .entry)) (now (attached .entry)) (now (domains .entry)) live s) (now (t .entry))) g d e reserved) ⌝ }
+) -> HandlerResult
+    ensures { λ r. ⌜ ((s : State) → withStatus (r .status) (device (withEndpoints listed (now (endpoints .entry)) (now (owners .entry)) (now (attached .exit)) (now (domains .exit)) (r .live) s) (now (t .exit))) ≡ detachFlat (device (withEndpoints listed (now (endpoints .entry)) (now (owners .entry)) (now (attached .entry)) (now (domains .entry)) live s) (now (t .entry))) g d e reserved) ⌝ }
 {
-    let i = state_endpoints::place_of(listed, endpoints, e);
+    let i = state_endpoints::index_of(listed, endpoints, e);
     let status = detach_status(listed, owners, attached, domains, g, d, i, reserved);
     if status != OK {
-        return Handled { status, live };
+        return HandlerResult { status, live };
     }
     let kept = moving::leave(live, owners, attached, domains, t, g, i, d);
-    Handled {
+    HandlerResult {
         status: OK,
         live: kept,
     }

@@ -8,7 +8,7 @@ ghost use Rattle.state_fields.specs.Fields.{withLogs};
 ghost use Rattle.refinement.specs.Flat.{device};
 ghost use Rattle.refinement.specs.Fetching.{fetchFlat};
 ghost use Rattle.refinement.specs.Replied.{replied};
-use refinement::Given;
+use refinement::CallResult;
 use rules::Answer;
 use rules::Guest;
 use rules::Refusal;
@@ -52,7 +52,7 @@ pub fn fetch_faults<'a>(
 }
 
 // A guest's fetch, on the whole state.
-pub fn fetch(s: State, t: &[u64], g: Guest, buffer: &mut [u8]) -> Given
+pub fn fetch(s: State, t: &[u64], g: Guest, buffer: &mut [u8]) -> CallResult
     ensures { λ r. ⌜ replied r (now (buffer .exit)) (now (t .entry)) ≡ rules.step (device s (now (t .entry))) (rules.of-guest g (rules.fetch (now (buffer .entry)))) ⌝ }
 {
     let settings = s.settings;
@@ -74,7 +74,7 @@ pub fn fetch(s: State, t: &[u64], g: Guest, buffer: &mut [u8]) -> Given
         g,
     );
     if let Checked::Refused(e) = test {
-        return Given {
+        return CallResult {
             answer: Answer::Refused(e),
             state: s,
         };
@@ -100,7 +100,7 @@ pub fn fetch(s: State, t: &[u64], g: Guest, buffer: &mut [u8]) -> Given
     next.flags = flags;
     next.sources = sources;
     next.addresses = addresses;
-    Given {
+    CallResult {
         answer,
         state: next,
     }

@@ -6,8 +6,8 @@ ghost use Rattle.rules.specs.Sizes.{maxGuests};
 ghost use Rattle.rules.specs.Handlers.{statusOf, mapChain};
 ghost use Rattle.rules.specs.declared.State.{State};
 ghost use Rattle.state_fields.specs.Fields.{withSettings, withDomains};
-ghost use Rattle.refinement.specs.Flat.{device, worked, mapStatus, mapPlaced};
-use refinement::Handled;
+ghost use Rattle.refinement.specs.Flat.{device, withStatus, mapStatus, mapPlaced};
+use refinement::HandlerResult;
 use map_steps::form_status;
 use rules::Domain;
 use rules::Guest;
@@ -88,21 +88,21 @@ pub fn handle_map<'a>(
     g: Guest,
     d: Domain,
     r: Mapping,
-) -> Handled
-    ensures { λ x. ⌜ ((s : State) → worked (x .status) (device (withSettings settings (withDomains (now (owners .entry)) (now (attached .entry)) (now (domains .entry)) (x .live) s)) (now (t .exit))) ≡ mapPlaced (device (withSettings settings (withDomains (now (owners .entry)) (now (attached .entry)) (now (domains .entry)) live s)) (now (t .entry))) g d r) ⌝ }
+) -> HandlerResult
+    ensures { λ x. ⌜ ((s : State) → withStatus (x .status) (device (withSettings settings (withDomains (now (owners .entry)) (now (attached .entry)) (now (domains .entry)) (x .live) s)) (now (t .exit))) ≡ mapPlaced (device (withSettings settings (withDomains (now (owners .entry)) (now (attached .entry)) (now (domains .entry)) live s)) (now (t .entry))) g d r) ⌝ }
 {
     if !((g.0 < GUEST_PLACES) & (live < usize::MAX)) {
-        return Handled {
+        return HandlerResult {
             status: DEVERR,
             live,
         };
     }
     let status = map_status(settings, live, owners, attached, domains, t, g, d, r);
     if status != OK {
-        return Handled { status, live };
+        return HandlerResult { status, live };
     }
     table_insert::insert_mapping(t, live, r);
-    Handled {
+    HandlerResult {
         status: OK,
         live: live + 1,
     }

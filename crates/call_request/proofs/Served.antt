@@ -23,7 +23,7 @@ use Rattle.wire_requests.specs.declared.request.Request.the-variants.{Attach, D
 use Rattle.wire_requests.specs.declared.request.Request.the-variants as Q
 use Rattle.wire_requests.specs.Parsed.{mapFields, unmapFields, asked, unless, parsed}
 use Rattle.wire_requests.proofs.request.Request as request-type
-use Rattle.refinement.specs.Flat.{Worked, worked}
+use Rattle.refinement.specs.Flat.{StatusAndDevice, withStatus}
 use Rattle.refinement.specs.Requesting.{handled, refusedFlat, servedFlat, unlessRefused, requestFlat}
 
 abbrev pub handled-tags : List ℕ
@@ -78,11 +78,11 @@ module _ (d : Device) (g : Guest) (r b : List ℕ) where
     unfolding requestFlat unlessRefused
     serve-refused a f = rw (lt-ltb (g .0) (d .state .settings .guests) l, parsed-refused q r (length b) a e f)
 
-    pub serve-works : (st : ℕ) (n : Device) (c : List ℕ) → OneOf handled-tags (tagOf request-type.the-type q) → worked st n ≡ handled d g q → c ≡ cond (eqb (length b) 4) (st ∷ 0 ∷ 0 ∷ 0 ∷ []) b
+    pub serve-works : (st : ℕ) (n : Device) (c : List ℕ) → OneOf handled-tags (tagOf request-type.the-type q) → withStatus st n ≡ handled d g q → c ≡ cond (eqb (length b) 4) (st ∷ 0 ∷ 0 ∷ 0 ∷ []) b
         → (record { answer = Served 4; buffer = c }, n) ≡ requestFlat d g r b
     unfolding requestFlat unlessRefused
     serve-works st n c h x y =
         let p = parsed-handled q r (length b) e h in
         let four = four-bytes r (length b) (p .0) in
-        let done : worked st n ≡ handled d g (asked r) = x ∙ ap (λ (z : Request). handled d g z) (p .1) in
-        rw (lt-ltb (g .0) (d .state .settings .guests) l, p .0, y, four) (ap (λ (z : Worked). servedFlat z) done)
+        let done : withStatus st n ≡ handled d g (asked r) = x ∙ ap (λ (z : Request). handled d g z) (p .1) in
+        rw (lt-ltb (g .0) (d .state .settings .guests) l, p .0, y, four) (ap (λ (z : StatusAndDevice). servedFlat z) done)

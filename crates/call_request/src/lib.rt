@@ -3,12 +3,12 @@ ghost use mathlib.Core.Path.{_≡_};
 ghost use Rattle.rules.specs.declared.State.{State};
 ghost use Rattle.rules.specs.Device as rules;
 ghost use Rattle.state_fields.specs.Fields.{withSettings, withEndpoints};
-ghost use Rattle.refinement.specs.Flat.{device, worked};
+ghost use Rattle.refinement.specs.Flat.{device, withStatus};
 ghost use Rattle.refinement.specs.Requesting.{handled, requestFlat};
 ghost use Rattle.refinement.specs.Replied.{replied};
-use refinement::Given;
-use refinement::Handled;
-use refinement::Performed;
+use refinement::CallResult;
+use refinement::HandlerResult;
+use refinement::LentResult;
 use wire_requests::request::Request;
 use rules::Answer;
 use rules::Guest;
@@ -33,11 +33,11 @@ fn handle<'a>(
     t: &'a mut [u64],
     g: Guest,
     q: Request,
-) -> Handled
-    ensures { λ r. ⌜ ((s : State) → worked (r .status) (device (withSettings settings (withEndpoints listed (now (endpoints .entry)) (now (owners .entry)) (now (attached .exit)) (now (domains .exit)) (r .live) s)) (now (t .exit))) ≡ handled (device (withSettings settings (withEndpoints listed (now (endpoints .entry)) (now (owners .entry)) (now (attached .entry)) (now (domains .entry)) live s)) (now (t .entry))) g q) ⌝ }
+) -> HandlerResult
+    ensures { λ r. ⌜ ((s : State) → withStatus (r .status) (device (withSettings settings (withEndpoints listed (now (endpoints .entry)) (now (owners .entry)) (now (attached .exit)) (now (domains .exit)) (r .live) s)) (now (t .exit))) ≡ handled (device (withSettings settings (withEndpoints listed (now (endpoints .entry)) (now (owners .entry)) (now (attached .entry)) (now (domains .entry)) live s)) (now (t .entry))) g q) ⌝ }
 {
     match q {
-        Request::Refused(_) => Handled {
+        Request::Refused(_) => HandlerResult {
             status: DEVERR,
             live,
         },
@@ -112,18 +112,18 @@ pub fn serve<'a>(
     g: Guest,
     readable: &'a [u8],
     writable: &'a mut [u8],
-) -> Performed
+) -> LentResult
     ensures { λ r. ⌜ ((s : State) → (record { answer = r .answer; buffer = now (writable .exit) }, device (withSettings settings (withEndpoints listed (now (endpoints .entry)) (now (owners .entry)) (now (attached .exit)) (now (domains .exit)) (r .live) s)) (now (t .exit))) ≡ requestFlat (device (withSettings settings (withEndpoints listed (now (endpoints .entry)) (now (owners .entry)) (now (attached .entry)) (now (domains .entry)) live s)) (now (t .entry))) g (now (readable .entry)) (now (writable .entry))) ⌝ }
 {
     if settings.guests <= (g.0 as usize) {
-        return Performed {
+        return LentResult {
             answer: Answer::Refused(Refusal::NoSuchGuest),
             live,
         };
     }
     let q = wire_requests::request::parse(readable, writable.len());
     if let Request::Refused(e) = q {
-        return Performed {
+        return LentResult {
             answer: Answer::Refused(e),
             live,
         };
@@ -141,14 +141,14 @@ pub fn serve<'a>(
         q,
     );
     wire_requests::status::put_status(writable, h.status);
-    Performed {
+    LentResult {
         answer: Answer::Served(STATUS_SIZE),
         live: h.live,
     }
 }
 
 // A guest's request, in a readable and a writable part of any lengths.
-pub fn request(s: State, t: &mut [u64], g: Guest, readable: &[u8], writable: &mut [u8]) -> Given
+pub fn request(s: State, t: &mut [u64], g: Guest, readable: &[u8], writable: &mut [u8]) -> CallResult
     ensures { λ r. ⌜ replied r (now (writable .exit)) (now (t .exit)) ≡ rules.step (device s (now (t .entry))) (rules.of-guest g (rules.request (now (readable .entry)) (now (writable .entry)))) ⌝ }
 {
     let settings = s.settings;
@@ -170,7 +170,7 @@ pub fn request(s: State, t: &mut [u64], g: Guest, readable: &[u8], writable: &mu
         g,
     );
     if let Checked::Refused(e) = test {
-        return Given {
+        return CallResult {
             answer: Answer::Refused(e),
             state: s,
         };
@@ -195,7 +195,7 @@ pub fn request(s: State, t: &mut [u64], g: Guest, readable: &[u8], writable: &mu
     next.domains = domains;
     next.live = x.live;
     let answer = x.answer;
-    Given {
+    CallResult {
         answer,
         state: next,
     }

@@ -7,8 +7,8 @@ ghost use Rattle.state_fields.specs.Fields.{withLogs, withEndpoints};
 ghost use Rattle.refinement.specs.Flat.{device};
 ghost use Rattle.refinement.specs.Resetting.{resetAnswer, logsReset, domainsReset};
 ghost use Rattle.refinement.specs.Replied.{replied};
-use refinement::Given;
-use refinement::Performed;
+use refinement::CallResult;
+use refinement::LentResult;
 use rules::Answer;
 use rules::Guest;
 use rules::Refusal;
@@ -40,13 +40,13 @@ pub fn reset_guest<'a>(
     addresses: &'a mut [u64; FAULT_PLACES],
     t: &'a mut [u64],
     g: Guest,
-) -> Performed
+) -> LentResult
     ensures { λ r. ⌜ r .answer ≡ resetAnswer guests g ⌝ }
     ensures { λ _. ⌜ ((s : declared.State) → withLogs (now (logged .exit)) (now (lost .exit)) (now (reasons .exit)) (now (flags .exit)) (now (sources .exit)) (now (addresses .exit)) s ≡ logsReset guests (withLogs (now (logged .entry)) (now (lost .entry)) (now (reasons .entry)) (now (flags .entry)) (now (sources .entry)) (now (addresses .entry)) s) g) ⌝ }
     ensures { λ r. ⌜ ((s : declared.State) → device (withEndpoints listed (s .endpoints) (now (owners .entry)) (now (attached .exit)) (now (domains .exit)) (r .live) s) (now (t .exit)) ≡ domainsReset guests (device (withEndpoints listed (s .endpoints) (now (owners .entry)) (now (attached .entry)) (now (domains .entry)) live s) (now (t .entry))) g) ⌝ }
 {
     if least(guests, MAX_GUESTS) <= (g.0 as usize) {
-        return Performed {
+        return LentResult {
             answer: Answer::Refused(Refusal::NoSuchGuest),
             live,
         };
@@ -55,14 +55,14 @@ pub fn reset_guest<'a>(
     state_reset::detach_all(listed, owners, attached, domains, g);
     let low = (g.0 as u64) * DOMAIN_SPAN;
     let kept = table_remove::remove(t, live, low, low + LAST_DOMAIN, 0, TOP_ADDRESS);
-    Performed {
+    LentResult {
         answer: Answer::Done,
         live: kept,
     }
 }
 
 // A guest's reset, on the whole state.
-pub fn reset(s: State, t: &mut [u64], g: Guest) -> Given
+pub fn reset(s: State, t: &mut [u64], g: Guest) -> CallResult
     ensures { λ r. ⌜ replied r [] (now (t .exit)) ≡ rules.step (device s (now (t .entry))) (rules.of-guest g rules.reset) ⌝ }
 {
     let settings = s.settings;
@@ -84,7 +84,7 @@ pub fn reset(s: State, t: &mut [u64], g: Guest) -> Given
         g,
     );
     if let Checked::Refused(e) = test {
-        return Given {
+        return CallResult {
             answer: Answer::Refused(e),
             state: s,
         };
@@ -124,7 +124,7 @@ pub fn reset(s: State, t: &mut [u64], g: Guest) -> Given
     next.sources = sources;
     next.addresses = addresses;
     let answer = done.answer;
-    Given {
+    CallResult {
         answer,
         state: next,
     }

@@ -4,7 +4,7 @@ ghost use Rattle.rules.specs.Configuration.{good};
 ghost use Rattle.rules.specs.State.{trimmed, stateOf, start, zeroState};
 ghost use Rattle.rules.specs.Device.{setUp};
 ghost use Rattle.refinement.specs.Setting.{configured, started};
-use refinement::Given;
+use refinement::CallResult;
 use rules::Answer;
 use rules::DomainRange;
 use rules::InputRange;
@@ -102,23 +102,23 @@ fn is_good(s: Settings, endpoints: &[u32], owners: &[u8]) -> bool
 }
 
 // Set-up: on a table of the right length and a good configuration, the start state, and every word of the table zero.
-pub fn set_up(settings: Settings, endpoints: &[u32], owners: &[u8], t: &mut [u64]) -> Given
+pub fn set_up(settings: Settings, endpoints: &[u32], owners: &[u8], t: &mut [u64]) -> CallResult
     ensures { λ r. ⌜ started r (now (t .exit)) ≡ setUp (configured settings (now (endpoints .entry)) (now (owners .entry))) (now (t .entry)) ⌝ }
 {
     if t.len() != TABLE_WORDS {
-        return Given {
+        return CallResult {
             answer: Answer::Refused(Refusal::Unsound),
             state: zero_state(),
         };
     }
     if !is_good(settings, endpoints, owners) {
-        return Given {
+        return CallResult {
             answer: Answer::Refused(Refusal::BadConfiguration),
             state: zero_state(),
         };
     }
     table_remove::clear(t);
-    Given {
+    CallResult {
         answer: Answer::Done,
         state: start_state(settings, endpoints, owners),
     }

@@ -3,8 +3,8 @@ ghost use mathlib.Core.Path.{_≡_};
 ghost use Rattle.rules.specs.Handlers.{statusOf, unmapChain};
 ghost use Rattle.rules.specs.declared.State.{State};
 ghost use Rattle.state_fields.specs.Fields.{withDomains};
-ghost use Rattle.refinement.specs.Flat.{device, worked, unmapStatus, unmapFlat};
-use refinement::Handled;
+ghost use Rattle.refinement.specs.Flat.{device, withStatus, unmapStatus, unmapFlat};
+use refinement::HandlerResult;
 use table_record::key_of;
 use rules::Domain;
 use rules::Guest;
@@ -65,16 +65,16 @@ pub fn handle_unmap<'a>(
     a: u64,
     b: u64,
     reserved: u64,
-) -> Handled
-    ensures { λ x. ⌜ ((s : State) → worked (x .status) (device (withDomains (now (owners .entry)) (now (attached .entry)) (now (domains .entry)) (x .live) s) (now (t .exit))) ≡ unmapFlat (device (withDomains (now (owners .entry)) (now (attached .entry)) (now (domains .entry)) live s) (now (t .entry))) g d a b reserved) ⌝ }
+) -> HandlerResult
+    ensures { λ x. ⌜ ((s : State) → withStatus (x .status) (device (withDomains (now (owners .entry)) (now (attached .entry)) (now (domains .entry)) (x .live) s) (now (t .exit))) ≡ unmapFlat (device (withDomains (now (owners .entry)) (now (attached .entry)) (now (domains .entry)) live s) (now (t .entry))) g d a b reserved) ⌝ }
 {
     let status = unmap_status(live, owners, attached, domains, t, g, d, a, b, reserved);
     if status != OK {
-        return Handled { status, live };
+        return HandlerResult { status, live };
     }
     let key = key_of(g, d);
     let kept = table_remove::remove(t, live, key, key, a, b);
-    Handled {
+    HandlerResult {
         status: OK,
         live: kept,
     }

@@ -1,2 +1,2 @@
-mod Turns
+mod Rounds
 mod Marking

@@ -9,6 +9,6 @@ pub sum-empty : (f : ℕ → ℕ) → sumBelow 0 f ≡ 0
 unfolding sumBelow
 sum-empty f = refl
 
-pub sum-turn : (n : ℕ) (f : ℕ → ℕ) → sumBelow (n + 1) f ≡ f n + sumBelow n f
+pub sum-round : (n : ℕ) (f : ℕ → ℕ) → sumBelow (n + 1) f ≡ f n + sumBelow n f
 unfolding sumBelow
-sum-turn n f = rw (add-one n)
+sum-round n f = rw (add-one n)

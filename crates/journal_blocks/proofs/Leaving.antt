@@ -12,11 +12,11 @@ use Rattle.laws.proofs.Tests.{both-left}
 use Rattle.journal_text.specs.Placing.{lineRoom, placed, written, writtenCount}
 use Rattle.journal_text.proofs.Places.{placed-none}
 use Rattle.journal_line_plain.specs.Plain.{lastLine}
-use Rattle.journal_session.specs.declared.player.Turned.{Turned}
-use Rattle.journal_session.specs.Turns.{Turn}
-use Rattle.journal_session.specs.Telling.{Tells}
+use Rattle.journal_session.specs.declared.session.StepResult.{StepResult}
+use Rattle.journal_session.specs.Steps.{RecordStep}
+use Rattle.journal_session.specs.Matching.{Matches}
 use Rattle.journal_run.specs.Journal.{played}
-use Rattle.journal_run.proofs.Stopping.{played-reads, played-idle}
+use Rattle.journal_run.proofs.Stopping.{played-reads, played-unread}
 use Rattle.journal_rest.specs.Blocks.{keptCount, kept}
 use Rattle.journal_blocks.specs.declared.Progress.{Progress}
 use Rattle.journal_blocks.specs.Advances.{heldWith, isOver, advance, Leaves}
@@ -53,28 +53,28 @@ module _ (p : Progress) (t block out : List ℕ) (got : ℕ) where
   abbrev H : ℕ
   H = heldWith p block got
 
-  abbrev X : Turn
-  X = played (length out) (p .player) t (take H block)
+  abbrev X : RecordStep
+  X = played (length out) (p .session) t (take H block)
 
   -- no more is read than is held
   reads-held : X .read ≤ H
   reads-held =
       let l = length-take-le H block (omega arith) in
-      omega (arith, l, played-reads (length out) (p .player) t (take H block))
+      omega (arith, l, played-reads (length out) (p .session) t (take H block))
 
   -- where the journal is over, no line was put before the last
   none-before : isOver p got X ≡ true → X .printed ≡ []
   none-before e =
-      ap (λ x. x .printed) (played-idle (length out) (p .player) t (take H block) (eqb-true (X .read) 0 (both-left (eqb (X .read) 0) (X .bad || (p .wants && eqb got 0)) e)))
+      ap (λ x. x .printed) (played-unread (length out) (p .session) t (take H block) (eqb-true (X .read) 0 (both-left (eqb (X .read) 0) (X .bad || (p .wants && eqb got 0)) e)))
 
   pub leaves :
-      (r : Turned) (offset left n : ℕ) (words mid rest last : List ℕ)
-      → Tells r words out mid 0 X
+      (r : StepResult) (offset left n : ℕ) (words mid rest last : List ℕ)
+      → Matches r words out mid 0 X
       → (left ≡ keptCount (r .read) H block) × (rest ≡ kept (r .read) H block)
       → offset ≡ (p .offset + r .read) % 2 ^ 64
       → (n ≡ cond (eqb (r .read) 0 && (r .bad || (p .wants && eqb got 0))) (writtenCount lineRoom 0 (lastLine left offset) mid) (r .printed))
       × (last ≡ cond (eqb (r .read) 0 && (r .bad || (p .wants && eqb got 0))) (written lineRoom 0 (lastLine left offset) mid) mid)
-      → Leaves (record { progress = record { player = r .player; offset = offset; held = left; wants = eqb (r .read) 0 }; printed = n; finished = eqb (r .read) 0 && (r .bad || (p .wants && eqb got 0)) }) words rest out last (advance (length out) p t block got)
+      → Leaves (record { progress = record { session = r .session; offset = offset; held = left; wants = eqb (r .read) 0 }; printed = n; finished = eqb (r .read) 0 && (r .bad || (p .wants && eqb got 0)) }) words rest out last (advance (length out) p t block got)
   unfolding advance
   leaves r offset left n words mid rest last tells k o q =
       let kept-all = rw (tells .read) at k in
@@ -82,7 +82,7 @@ module _ (p : Progress) (t block out : List ℕ) (got : ℕ) where
       let at : offset ≡ (p .offset + X .read) % 2 ^ 64 = rw (tells .read) at o in
       let q′ = rw (tells .read, tells .bad, held, at) at q in
       let put = puts (isOver p got X) (lastLine (H - X .read) ((p .offset + X .read) % 2 ^ 64)) (X .printed) out none-before (tells .printed) (tells .lines) q′ in
-      rw (tells .player, tells .read, tells .bad, held, at)
+      rw (tells .session, tells .read, tells .bad, held, at)
       (record {
         progress = refl;
         words = tells .words;

@@ -10,7 +10,7 @@ use lib.ListN.{length, take}
 use borrow.Author.Tests.{le-leb, ne-eqb}
 use Rattle.journal_text.specs.Placing.{lineRoom}
 use Rattle.journal_line_plain.specs.Plain.{lastLine}
-use Rattle.journal_session.specs.Turns.{Turn, idle}
+use Rattle.journal_session.specs.Steps.{RecordStep, unread}
 use Rattle.journal_run.specs.Journal.{played}
 use Rattle.journal_rest.specs.Blocks.{kept}
 use Rattle.journal_blocks.specs.declared.Progress.{Progress}
@@ -18,8 +18,8 @@ use Rattle.journal_blocks.specs.Advances.{heldWith, leaving, advance}
 use Rattle.journal_blocks.proofs.Keeping.{kept-still}
 
 module _ (room : ℕ) (p : Progress) (t block s : List ℕ) (got h : ℕ) (all : heldWith p block got ≡ h) (same : take h block ≡ s) (fits : h ≤ length block) (small : p .offset + h < 2 ^ 64) where
-  abbrev X : Turn
-  X = played room (p .player) t s
+  abbrev X : RecordStep
+  X = played room (p .session) t s
 
   advances-as : advance room p t block got ≡ leaving room p block got h X
   unfolding advance
@@ -29,7 +29,7 @@ module _ (room : ℕ) (p : Progress) (t block s : List ℕ) (got h : ℕ) (all :
   offset-as n l = mod-eq-of-lt (omega (arith, l, small))
 
   pub worked-some : 0 < X .read → X .read ≤ h → advance room p t block got ≡ record {
-    progress = record { player = X .player; offset = p .offset + X .read; held = h - X .read; wants = false };
+    progress = record { session = X .session; offset = p .offset + X .read; held = h - X .read; wants = false };
     table = X .table;
     block = kept (X .read) h block;
     printed = X .printed;
@@ -38,7 +38,7 @@ module _ (room : ℕ) (p : Progress) (t block s : List ℕ) (got h : ℕ) (all :
   worked-some a l = advances-as ∙ rw (ne-eqb (X .read) 0 (λ z. omega (arith, a, z)), offset-as (X .read) l)
 
   -- where no record is worked
-  module _ (b : Bool) (still : X ≡ idle (p .player) t b) where
+  module _ (b : Bool) (still : X ≡ unread (p .session) t b) where
     none-read : (p .offset + 0) % 2 ^ 64 ≡ p .offset
     none-read = offset-as 0 (omega arith) ∙ add-zero (p .offset)
 
@@ -46,7 +46,7 @@ module _ (room : ℕ) (p : Progress) (t block s : List ℕ) (got h : ℕ) (all :
     none-gone = omega arith
 
     pub wants-more : (b || (p .wants && eqb got 0)) ≡ false → advance room p t block got ≡ record {
-      progress = record { player = p .player; offset = p .offset; held = h; wants = true };
+      progress = record { session = p .session; offset = p .offset; held = h; wants = true };
       table = t;
       block = block;
       printed = [];

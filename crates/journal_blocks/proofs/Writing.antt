@@ -14,13 +14,13 @@ use Rattle.laws.proofs.Tests.{true-false, both-left, both-right, or-cases, nor,
 use Rattle.journal_text.specs.Placing.{placed}
 use Rattle.journal_line_plain.specs.Plain.{lastLine}
 use Rattle.journal_records.specs.Items.{longestBody, front}
-use Rattle.journal_session.specs.declared.player.Player.{Player}
-use Rattle.journal_session.specs.Turns.{recordRoom, Turn, idle, turnOf, turn}
+use Rattle.journal_session.specs.declared.session.Session.{Session}
+use Rattle.journal_session.specs.Steps.{recordRoom, RecordStep, unread, stepOf, stepRecord}
 use Rattle.journal_run.specs.Journal.{outputFor, outputFrom, played}
 use Rattle.journal_run.proofs.Repeating.{play-stop}
 use Rattle.journal_run.proofs.Longer.{isCut}
-use Rattle.journal_run.proofs.Streaming.{turn-idle, streams, resumes}
-use Rattle.journal_run.proofs.Stopping.{played-reads, played-idle, first-stays, cut-few}
+use Rattle.journal_run.proofs.Streaming.{step-unread, streams, resumes}
+use Rattle.journal_run.proofs.Stopping.{played-reads, played-unread, first-stays, cut-few}
 use Rattle.journal_rest.specs.Blocks.{kept}
 use Rattle.journal_blocks.specs.declared.Progress.{Progress}
 use Rattle.journal_blocks.specs.Advances.{beginning, advance}
@@ -30,23 +30,23 @@ use Rattle.journal_blocks.proofs.Outcomes.{worked-some, wants-more, end
 
 -- WHERE NO RECORD IS WORKED
 
-module _ (at : ℕ) (p : Player) (t s : List ℕ) (h : turn p t s .read ≡ 0) where
+module _ (at : ℕ) (p : Session) (t s : List ℕ) (h : stepRecord p t s .read ≡ 0) where
   -- a journal that ends there has its last line
   ends-there : outputFrom at p t s ≡ lastLine (length s) at
   unfolding outputFor
   ends-there = rw h
 
   -- it is cut, and so short, unless it is bad
-  few-left : turn p t s .bad ≡ false → length s ≤ longestBody
-  few-left e = cut-few s (not-false (isCut (front s)) (sym (turn-idle p t s h .cut) ∙ e))
+  few-left : stepRecord p t s .bad ≡ false → length s ≤ longestBody
+  few-left e = cut-few s (not-false (isCut (front s)) (sym (step-unread p t s h .cut) ∙ e))
 
 no-bytes : (s : List ℕ) → length s ≡ 0 → s ≡ []
 no-bytes [] e = refl
 no-bytes (b ∷ s) e = absurd (omega arith)
 
 -- where there is no byte, nothing is bad
-empty-good : (p : Player) (t s : List ℕ) → length s ≡ 0 → turn p t s .bad ≡ false
-unfolding turn turnOf front
+empty-good : (p : Session) (t s : List ℕ) → length s ≡ 0 → stepRecord p t s .bad ≡ false
+unfolding stepRecord stepOf front
 empty-good p t [] e = refl
 empty-good p t (b ∷ s) e = absurd (omega arith)
 
@@ -98,7 +98,7 @@ module _ (room : ℕ) (reads : ℕ → ℕ) (wide : recordRoom ≤ room) where
   -- n rounds write what the bytes held and the rest print
   abbrev Writes : ℕ → Type 0
   Writes n =
-      (p : Progress) (t block rest : List ℕ) → Stands p block rest → roundsFor p rest < n → writesFor n room reads p t block rest ≡ outputFrom (p .offset) (p .player) t (take (p .held) block ++ rest)
+      (p : Progress) (t block rest : List ℕ) → Stands p block rest → roundsFor p rest < n → writesFor n room reads p t block rest ≡ outputFrom (p .offset) (p .session) t (take (p .held) block ++ rest)
 
   module _ (n : ℕ) (again : Writes n) (p : Progress) (t block rest : List ℕ) (w : Stands p block rest) (l : roundsFor p rest < suc n) (k : ℕ) (r : Reads p block rest k) where
     abbrev B : List ℕ
@@ -110,8 +110,8 @@ module _ (room : ℕ) (reads : ℕ → ℕ) (wide : recordRoom ≤ room) where
     abbrev H : ℕ
     H = p .held + k
 
-    abbrev X : Turn
-    X = played room (p .player) t S
+    abbrev X : RecordStep
+    X = played room (p .session) t S
 
     count : length (take k rest) ≡ k
     count = length-take-le k rest (r .there)
@@ -146,29 +146,29 @@ module _ (room : ℕ) (reads : ℕ → ℕ) (wide : recordRoom ≤ room) where
 
     -- what this round writes, and then the others, is right
     abbrev Right : Type 0
-    Right = followed (λ q u b. writesFor n room reads q u b (drop k rest)) (advance room p t B k) ≡ outputFrom (p .offset) (p .player) t (S ++ drop k rest)
+    Right = followed (λ q u b. writesFor n room reads q u b (drop k rest)) (advance room p t B k) ≡ outputFrom (p .offset) (p .session) t (S ++ drop k rest)
 
     -- records are worked
     goes-on : 0 < X .read → Right
     goes-on a =
-        let few : X .read ≤ H = omega (arith, played-reads room (p .player) t S, length-S) in
+        let few : X .read ≤ H = omega (arith, played-reads room (p .session) t S, length-S) in
         let f : take (H - X .read) (kept (X .read) H B) ≡ drop (X .read) S = kept-front (X .read) H B few within ∙ ap (drop (X .read)) same in
         let m : length (kept (X .read) H B) ≡ length block = kept-length (X .read) H B few within ∙ sized in
-        let q : Progress = record { player = X .player; offset = p .offset + X .read; held = H - X .read; wants = false } in
+        let q : Progress = record { session = X .session; offset = p .offset + X .read; held = H - X .read; wants = false } in
         let stands : Stands q (kept (X .read) H B) (drop k rest) =
         record { fits = omega (arith, m, r .fits); small = omega (arith, few, left, r .there, w .small); few = λ u. true-false false u refl; long = omega (arith, m, w .long) } in
         let next = again q (X .table) (kept (X .read) H B) (drop k rest) stands (omega (arith, left, few, a, l, r .there)) in
         rw (worked-some room p t B S k H all same within small a few)
-        (ap (λ z. X .printed ++ z) (next ∙ ap (λ z. outputFrom (p .offset + X .read) (X .player) (X .table) (z ++ drop k rest)) f)
-        ∙ sym (resumes room (p .offset) (p .player) t S (drop k rest)))
+        (ap (λ z. X .printed ++ z) (next ∙ ap (λ z. outputFrom (p .offset + X .read) (X .session) (X .table) (z ++ drop k rest)) f)
+        ∙ sym (resumes room (p .offset) (p .session) t S (drop k rest)))
 
     -- none is worked
-    module _ (b : Bool) (e : X ≡ idle (p .player) t b) where
-      stays : turn (p .player) t S .read ≡ 0
-      stays = first-stays room (p .player) t S wide (ap (λ x. x .read) e)
+    module _ (b : Bool) (e : X ≡ unread (p .session) t b) where
+      stays : stepRecord (p .session) t S .read ≡ 0
+      stays = first-stays room (p .session) t S wide (ap (λ x. x .read) e)
 
-      told : turn (p .player) t S .bad ≡ b
-      told = ap (λ x. x .bad) (sym (play-stop room (p .player) t S wide stays) ∙ e)
+      told : stepRecord (p .session) t S .bad ≡ b
+      told = ap (λ x. x .bad) (sym (play-stop room (p .session) t S wide stays) ∙ e)
 
       -- rounds are left for what is then read
       fewer : (b || (p .wants && eqb k 0)) ≡ false → 3 * length (drop k rest) + 2 * H < n
@@ -182,24 +182,24 @@ module _ (room : ℕ) (reads : ℕ → ℕ) (wide : recordRoom ≤ room) where
 
       more : (b || (p .wants && eqb k 0)) ≡ false → Right
       more o =
-          let q : Progress = record { player = p .player; offset = p .offset; held = H; wants = true } in
-          let short : H ≤ longestBody = rw length-S at (few-left (p .offset) (p .player) t S stays (told ∙ nor b (p .wants && eqb k 0) o .0)) in
+          let q : Progress = record { session = p .session; offset = p .offset; held = H; wants = true } in
+          let short : H ≤ longestBody = rw length-S at (few-left (p .offset) (p .session) t S stays (told ∙ nor b (p .wants && eqb k 0) o .0)) in
           let stands : Stands q B (drop k rest) = record { fits = within; small = omega (arith, left, r .there, w .small); few = λ _. short; long = omega (arith, sized, w .long) } in
           rw (wants-more room p t B S k H all same within small b e o)
-          (again q t B (drop k rest) stands (omega (arith, fewer o)) ∙ ap (λ z. outputFrom (p .offset) (p .player) t (z ++ drop k rest)) same)
+          (again q t B (drop k rest) stands (omega (arith, fewer o)) ∙ ap (λ z. outputFrom (p .offset) (p .session) t (z ++ drop k rest)) same)
 
       -- the journal is bad
-      bad-there : b ≡ true → outputFrom (p .offset) (p .player) t (S ++ drop k rest) ≡ lastLine H (p .offset)
+      bad-there : b ≡ true → outputFrom (p .offset) (p .session) t (S ++ drop k rest) ≡ lastLine H (p .offset)
       bad-there u =
-          let some : H ≡ 0 → ⊥ = λ z. true-false (turn (p .player) t S .bad) (told ∙ u) (empty-good (p .player) t S (length-S ∙ z)) in
-          streams room (p .offset) (p .player) t S (drop k rest) ∙ rw (e, u, ne-eqb H 0 some, add-zero)
+          let some : H ≡ 0 → ⊥ = λ z. true-false (stepRecord (p .session) t S .bad) (told ∙ u) (empty-good (p .session) t S (length-S ∙ z)) in
+          streams room (p .offset) (p .session) t S (drop k rest) ∙ rw (e, u, ne-eqb H 0 some, add-zero)
 
       -- or it has ended
-      ended : (p .wants && eqb k 0) ≡ true → outputFrom (p .offset) (p .player) t (S ++ drop k rest) ≡ lastLine H (p .offset)
+      ended : (p .wants && eqb k 0) ≡ true → outputFrom (p .offset) (p .session) t (S ++ drop k rest) ≡ lastLine H (p .offset)
       ended u =
           let z = r .none (both-left (p .wants) (eqb k 0) u) (eqb-true k 0 (both-right (p .wants) (eqb k 0) u)) in
           let none : drop k rest ≡ [] = no-bytes (drop k rest) (omega (arith, left, z)) in
-          rw (none, append-nil S) (ends-there (p .offset) (p .player) t S stays ∙ ap (λ i. lastLine i (p .offset)) length-S)
+          rw (none, append-nil S) (ends-there (p .offset) (p .session) t S stays ∙ ap (λ i. lastLine i (p .offset)) length-S)
 
       over : (b || (p .wants && eqb k 0)) ≡ true → Right
       over o =
@@ -207,15 +207,15 @@ module _ (room : ℕ) (reads : ℕ → ℕ) (wide : recordRoom ≤ room) where
           rw (x .0, x .1) (append-nil (lastLine H (p .offset)) ∙ sym (⊎-elim bad-there ended (or-cases b (p .wants && eqb k 0) o)))
 
     one-round : Right
-    one-round = worked (eqb (X .read) 0) refl
+    one-round = withStatus (eqb (X .read) 0) refl
       where
         none : (c : Bool) → (X .bad || (p .wants && eqb k 0)) ≡ c → X .read ≡ 0 → Right
-        none true o z = over (X .bad) (played-idle room (p .player) t S z) o
-        none false o z = more (X .bad) (played-idle room (p .player) t S z) o
+        none true o z = over (X .bad) (played-unread room (p .session) t S z) o
+        none false o z = more (X .bad) (played-unread room (p .session) t S z) o
 
-        worked : (c : Bool) → eqb (X .read) 0 ≡ c → Right
-        worked true z = none (X .bad || (p .wants && eqb k 0)) refl (eqb-true (X .read) 0 z)
-        worked false z = let y = eqb-false (X .read) 0 z in goes-on (omega (arith, y))
+        withStatus : (c : Bool) → eqb (X .read) 0 ≡ c → Right
+        withStatus true z = none (X .bad || (p .wants && eqb k 0)) refl (eqb-true (X .read) 0 z)
+        withStatus false z = let y = eqb-false (X .read) 0 z in goes-on (omega (arith, y))
 
   writes-on : (n : ℕ) → Writes n
   unfolding writesFor
@@ -223,7 +223,7 @@ module _ (room : ℕ) (reads : ℕ → ℕ) (wide : recordRoom ≤ room) where
   writes-on (suc n) p t block rest w l =
       let k = got (reads n) p block rest in
       let r = reads-well (reads n) p block rest w in
-      one-round n (writes-on n) p t block rest w l k r ∙ ap (outputFrom (p .offset) (p .player) t) (sym (joins n (writes-on n) p t block rest w l k r))
+      one-round n (writes-on n) p t block rest w l k r ∙ ap (outputFrom (p .offset) (p .session) t) (sym (joins n (writes-on n) p t block rest w l k r))
 
 -- the claim of specs/Loop.antt
 pub writes-all : WritesAll

@@ -7,7 +7,7 @@ use lib.Dec.{leb, eqb}
 use lib.ListN.{length, take}
 use Rattle.journal_text.specs.Placing.{lineRoom, placed}
 use Rattle.journal_line_plain.specs.Plain.{lastLine}
-use Rattle.journal_session.specs.Turns.{Turn, fresh}
+use Rattle.journal_session.specs.Steps.{RecordStep, fresh}
 use Rattle.journal_run.specs.Journal.{played}
 use Rattle.journal_rest.specs.Blocks.{kept}
 use Rattle.journal_blocks.specs.declared.Progress.{Progress}
@@ -23,18 +23,18 @@ pub record Advance : Type 0 where
 
 -- before the first byte: none is held, and bytes are wanted
 abbrev pub beginning : Progress
-beginning = record { player = fresh; offset = 0; held = 0; wants = true }
+beginning = record { session = fresh; offset = 0; held = 0; wants = true }
 
 -- the bytes held with those read behind them, as far as the block goes
 abbrev pub heldWith : Progress → List ℕ → ℕ → ℕ
 heldWith p block got = min (p .held + got) (length block)
 
 -- how far the journal has come once the records x of the first h bytes of the block are worked. An offset is kept in 64 bits.
-abbrev pub progressed : Progress → ℕ → Turn → Progress
-progressed p h x = record { player = x .player; offset = (p .offset + x .read) % 2 ^ 64; held = h - x .read; wants = eqb (x .read) 0 }
+abbrev pub progressed : Progress → ℕ → RecordStep → Progress
+progressed p h x = record { session = x .session; offset = (p .offset + x .read) % 2 ^ 64; held = h - x .read; wants = eqb (x .read) 0 }
 
 -- no record was worked, and none will be: the journal is bad here, or bytes were wanted and there are no more
-abbrev pub isOver : Progress → ℕ → Turn → Bool
+abbrev pub isOver : Progress → ℕ → RecordStep → Bool
 isOver p got x = eqb (x .read) 0 && (x .bad || (p .wants && eqb got 0))
 
 -- the last line of a journal that ends so, where the buffer has room for a line
@@ -42,7 +42,7 @@ abbrev pub lastIn : ℕ → Progress → List ℕ
 lastIn room p = cond (leb lineRoom room) (lastLine (p .held) (p .offset)) []
 
 -- what is left once the records x of the first h bytes of the block are worked
-abbrev pub leaving : ℕ → Progress → List ℕ → ℕ → ℕ → Turn → Advance
+abbrev pub leaving : ℕ → Progress → List ℕ → ℕ → ℕ → RecordStep → Advance
 leaving room p block got h x =
     record {
       progress = progressed p h x;
@@ -56,7 +56,7 @@ leaving room p block got h x =
 -- lines, and what is left of the block moves to its front; where none is worked, more bytes are wanted, or the journal is over
 unfoldable pub advance : ℕ → Progress → List ℕ → List ℕ → ℕ → Advance
 advance room p t block got =
-    leaving room p block got (heldWith p block got) (played room (p .player) t (take (heldWith p block got) block))
+    leaving room p block got (heldWith p block got) (played room (p .session) t (take (heldWith p block got) block))
 
 -- a result, and table, block and buffer `out` as left, say all of an advance
 pub record Leaves (r : Advanced) (table block out left : List ℕ) (x : Advance) : Type 0 where

@@ -7,7 +7,7 @@ use lib.ListN.{length, take, drop, replicate}
 use Rattle.rules.specs.Sizes.{tableWords}
 use Rattle.journal_text.specs.Placing.{placed}
 use Rattle.journal_records.specs.Items.{longestBody}
-use Rattle.journal_session.specs.Turns.{recordRoom}
+use Rattle.journal_session.specs.Steps.{recordRoom}
 use Rattle.journal_run.specs.Journal.{output}
 use Rattle.journal_blocks.specs.declared.Progress.{Progress}
 use Rattle.journal_blocks.specs.Advances.{Advance, beginning, advance}

@@ -8,13 +8,13 @@ ghost use Rattle.journal_line_plain.specs.Plain.{lastLine};
 ghost use Rattle.journal_blocks.specs.Advances as advances;
 ghost use Rattle.journal_blocks.specs.Advances.{Leaves};
 use journal_run::play;
-use journal_session::player;
-use journal_session::player::Player;
+use journal_session::session;
+use journal_session::session::Session;
 
 // How far a journal has come: where in it the first byte held stands, how many bytes are held at the front of the block, and
 // whether more are wanted behind them before the next advance.
 pub struct Progress {
-    pub player: Player,
+    pub session: Session,
     pub offset: u64,
     pub held: usize,
     pub wants: bool,
@@ -32,7 +32,7 @@ pub fn beginning() -> Progress
     ensures { λ r. ⌜ r ≡ advances.beginning ⌝ }
 {
     Progress {
-        player: player::fresh(),
+        session: session::fresh(),
         offset: 0,
         held: 0,
         wants: true,
@@ -69,9 +69,9 @@ pub fn advance(p: Progress, t: &mut [u64], block: &mut [u8], out: &mut [u8], got
     ensures { λ r. ⌜ Leaves r (now (t .exit)) (now (block .exit)) (now (out .entry)) (now (out .exit)) (advances.advance (length (now (out .entry))) p (now (t .entry)) (now (block .entry)) got) ⌝ }
 {
     let held = held_with(p.held, got, block.len());
-    let before = p.player;
+    let before = p.session;
     let x = play::play(before, t, &block[..held], out);
-    let player = x.player;
+    let session = x.session;
     let left = journal_rest::keep_rest(block, x.read, held);
     let offset = std::num::wrapping_add_u64(p.offset, x.read as u64);
     let still = x.read == 0;
@@ -79,7 +79,7 @@ pub fn advance(p: Progress, t: &mut [u64], block: &mut [u8], out: &mut [u8], got
     let printed = put_over(out, over, left, offset, x.printed);
     Advanced {
         progress: Progress {
-            player,
+            session,
             offset,
             held: left,
             wants: still,

@@ -21,24 +21,24 @@ use Rattle.refinement.specs.Flat.{device, afterAccess}
 use Rattle.journal_text.specs.Placing.{written, writtenCount}
 use Rattle.journal_line_fetch.specs.Lines.{fetchFits}
 use Rattle.journal_records.specs.Items.{sizeOf}
-use Rattle.journal_session.specs.Turns.{callTurn}
-use Rattle.journal_session.specs.Telling.{Tells}
-use Rattle.journal_step.proofs.Calling.{tells-call}
-use Rattle.journal_run.specs.declared.calls.Ran.{Ran}
+use Rattle.journal_session.specs.Steps.{callStep}
+use Rattle.journal_session.specs.Matching.{Matches}
+use Rattle.journal_step.proofs.Calling.{matches-call}
+use Rattle.journal_run.specs.declared.calls.RunStep.{RunStep}
 use Rattle.refinement.specs.Fetching.{fetched, unfetched, logFits, fetchFlat}
 use Rattle.refinement.specs.Resetting.{resetAnswer, logsReset, domainsReset, resetWhole}
-use Rattle.refinement.specs.Translating.{answered, accessFlat}
+use Rattle.refinement.specs.Translating.{answered, accessWhole}
 use Rattle.journal_run.specs.Running.{ranTo}
 
 -- a call is worked that leaves this state by the count of live records, and its lines are put where there is room for them
 pub tells-ran :
-    (room : ℕ) (b : List ℕ) (print : Reply → List ℕ) (s : ℕ → State) {r : Ran} {a : Answer} {live : ℕ} {y : Reply × Device} {words buffer out left : List ℕ} {k c : ℕ}
+    (room : ℕ) (b : List ℕ) (print : Reply → List ℕ) (s : ℕ → State) {r : RunStep} {a : Answer} {live : ℕ} {y : Reply × Device} {words buffer out left : List ℕ} {k c : ℕ}
     → k + room ≤ length out
     → (record { answer = a; buffer = buffer }, device (s live) words) ≡ y
     → (c ≡ writtenCount room k (print (record { answer = a; buffer = buffer })) out) × (left ≡ written room k (print (record { answer = a; buffer = buffer })) out)
     → r ≡ record { live = live; read = sizeOf b; printed = c; bad = false }
-    → Tells (ranTo (s (r .live)) r) words out left k (callTurn b print y)
-tells-ran room b print s {a = a} {live = live} h e w g = rw g (tells-call room b (record { answer = a; state = s live }) print h e w refl)
+    → Matches (ranTo (s (r .live)) r) words out left k (callStep b print y)
+tells-ran room b print s {a = a} {live = live} h e w g = rw g (matches-call room b (record { answer = a; state = s live }) print h e w refl)
 
 -- a fetch gives no more records than fit whole into the buffer, so its lines fit where the buffer holds no more than may be asked for
 module _ (guests : ℕ) (s : State) (g : Guest) (b : List ℕ) where
@@ -59,7 +59,7 @@ module _ (guests : ℕ) (s : State) (g : Guest) (b : List ℕ) where
       rw (le-leb (fetchedCount a) maxFaults (omega arith), le-leb (faultSize * fetchedCount a) (length buffer) (omega arith))
 
 -- the parts that an access, a reset and a fetch are told in, put together
-pub accessed : (s : State) (t : List ℕ) (x : Access) {a : Answer} {u : State} → a ≡ answered (device s t) x → u ≡ afterAccess s x a → (record { answer = a; buffer = [] }, device u t) ≡ accessFlat (device s t) x
+pub accessed : (s : State) (t : List ℕ) (x : Access) {a : Answer} {u : State} → a ≡ answered (device s t) x → u ≡ afterAccess s x a → (record { answer = a; buffer = [] }, device u t) ≡ accessWhole (device s t) x
 accessed s t x e f = rw (f, e)
 
 pub cleared : (guests : ℕ) (s : State) (t : List ℕ) (g : Guest) {a : Answer} {u : State} {d : Device}

@@ -13,9 +13,9 @@ use Rattle.laws.proofs.Tests.{either-way, true-false}
 use Rattle.rules.specs.Sizes.{maxFaults}
 use Rattle.journal_records.specs.declared.Item.{Item}
 use Rattle.journal_records.specs.declared.Item.the-variants.{Cut, Wrong, NamedGuest, NamedEndpoint, Start, Request, AccessBy, Reset, Fetch}
-use Rattle.journal_session.specs.declared.player.Player.{Player}
+use Rattle.journal_session.specs.declared.session.Session.{Session}
 use Rattle.journal_records.specs.Items.{GUEST, ENDPOINT, START, ACCESS, RESET, FETCH, bodyLength, kindOf, sizeOf, requestBytes, itemOf, front, Fits}
-use Rattle.journal_session.specs.Turns.{turnOf, turn}
+use Rattle.journal_session.specs.Steps.{stepOf, stepRecord}
 use Rattle.journal_step.proofs.Reading.{works, front-fits}
 
 -- two choices by one test
@@ -107,9 +107,9 @@ module _ (s rest : List ℕ) where
       let b : take (sizeOf s - 2) (drop 2 s ++ rest) ≡ take (sizeOf s - 2) (drop 2 s) = take-append-le (sizeOf s - 2) (drop 2 s) rest (omega (arith, f .2, length-drop 2 s)) in
       rw (size-more (f .0), a) b
 
-  module _ (p : Player) (t : List ℕ) where
-    item-more : (i : Item) → (works i ≡ true → Fits s) → turnOf p t (s ++ rest) i ≡ turnOf p t s i
-    unfolding turnOf
+  module _ (p : Session) (t : List ℕ) where
+    item-more : (i : Item) → (works i ≡ true → Fits s) → stepOf p t (s ++ rest) i ≡ stepOf p t s i
+    unfolding stepOf
     item-more Cut f = refl
     item-more Wrong f = refl
     item-more (NamedGuest x) f = rw (size-more (f refl .0))
@@ -120,6 +120,6 @@ module _ (s rest : List ℕ) where
     item-more (Reset g) f = rw (size-more (f refl .0))
     item-more (Fetch g n) f = rw (size-more (f refl .0))
 
-    pub turn-more : isCut (front s) ≡ false → turn p t (s ++ rest) ≡ turn p t s
-    unfolding turn
-    turn-more h = ap (turnOf p t (s ++ rest)) (front-more h) ∙ item-more (front s) (front-fits s)
+    pub step-more : isCut (front s) ≡ false → stepRecord p t (s ++ rest) ≡ stepRecord p t s
+    unfolding stepRecord
+    step-more h = ap (stepOf p t (s ++ rest)) (front-more h) ∙ item-more (front s) (front-fits s)

@@ -9,11 +9,11 @@ use lib.ListN.{length, take, drop, length-append, length-drop, take-append-drop,
 use lib.Seq.{length-take-le, take-append-add, drop-append-add, take-append-seam, drop-append-seam, drop-drop, take-all}
 use borrow.Rule.Slice.PartMut.{putMid}
 use Rattle.journal_text.specs.Placing.{placed}
-use Rattle.journal_session.specs.declared.player.Player.{Player}
-use Rattle.journal_session.specs.declared.player.Turned.{Turned}
-use Rattle.journal_session.specs.Turns.{recordRoom, Turn, turn}
+use Rattle.journal_session.specs.declared.session.Session.{Session}
+use Rattle.journal_session.specs.declared.session.StepResult.{StepResult}
+use Rattle.journal_session.specs.Steps.{recordRoom, RecordStep, stepRecord}
 use Rattle.journal_run.specs.Journal.{joined, played}
-use Rattle.journal_session.specs.Telling.{turned, Tells}
+use Rattle.journal_session.specs.Matching.{stepResult, Matches}
 use Rattle.journal_run.proofs.Repeating.{play-full, play-stop, play-step}
 
 -- A LINE PUT AFTER OTHERS
@@ -64,11 +64,11 @@ placed-rest out m line k e =
     let z : drop (length out - k) (drop k out) ≡ [] = drop-of-length-le (drop k out) {i = length out - k} (omega (arith, length-drop k out)) in
     rw (e, z, append-nil (line ++ drop (0 + length line) (drop k out)), zero-add (length line), drop-drop (length line) k out)
 
-pub tells-rest : {r : Turned} {t out m : List ℕ} {k : ℕ} {x : Turn} → Tells r t (take (length out - k) (drop k out)) m 0 x → Tells r t out (putMid k (length out - k) out m) k x
+pub tells-rest : {r : StepResult} {t out m : List ℕ} {k : ℕ} {x : RecordStep} → Matches r t (take (length out - k) (drop k out)) m 0 x → Matches r t out (putMid k (length out - k) out m) k x
 tells-rest {out = out} {m = m} {k = k} {x = x} tells =
     let e : take (length out - k) (drop k out) ≡ drop k out = take-all (length out - k) (drop k out) (omega (arith, length-drop k out)) in
     record {
-      player = tells .player;
+      session = tells .session;
       words = tells .words;
       read = tells .read;
       printed = tells .printed;
@@ -79,16 +79,16 @@ tells-rest {out = out} {m = m} {k = k} {x = x} tells =
 -- THE LOOP
 
 -- bytes read and lines put so far, as a turn's first part
-abbrev so : Player → List ℕ → ℕ → List ℕ → Turn
-so p t n line = record { player = p; table = t; read = n; printed = line; bad = false }
+abbrev so : Session → List ℕ → ℕ → List ℕ → RecordStep
+so p t n line = record { session = p; table = t; read = n; printed = line; bad = false }
 
 -- what was so far, a turn, and what follows
-regroup : (p : Player) (t line : List ℕ) (n : ℕ) (x y : Turn) → joined (so p t n line) (joined x y) ≡ joined (so (x .player) (x .table) (n + x .read) (line ++ x .printed)) y
+regroup : (p : Session) (t line : List ℕ) (n : ℕ) (x y : RecordStep) → joined (so p t n line) (joined x y) ≡ joined (so (x .session) (x .table) (n + x .read) (line ++ x .printed)) y
 regroup p t line n x y = rw (add-assoc n (x .read) (y .read), append-assoc line (x .printed) (y .printed))
 
-module _ (p₀ : Player) (t₀ s start : List ℕ) where
+module _ (p₀ : Session) (t₀ s start : List ℕ) where
   -- after `read` bytes read and `printed` bytes put
-  pub record Went (p : Player) (t out : List ℕ) (read printed : ℕ) : Type 0 where
+  pub record Went (p : Session) (t out : List ℕ) (read printed : ℕ) : Type 0 where
     pub same : length out ≡ length start
     pub within : read ≤ length s
     pub fits : printed ≤ length start
@@ -108,7 +108,7 @@ module _ (p₀ : Player) (t₀ s start : List ℕ) where
       }
 
   -- what is worked next, from what was worked so far
-  module _ (p : Player) (t out : List ℕ) (read printed : ℕ) (w : Went p t out read printed) (x : Turn) (r : Turned) (t′ out′ : List ℕ) (tells : Tells r t′ out out′ printed x) (whole : length out′ ≡ length start) where
+  module _ (p : Session) (t out : List ℕ) (read printed : ℕ) (w : Went p t out read printed) (x : RecordStep) (r : StepResult) (t′ out′ : List ℕ) (tells : Matches r t′ out out′ printed x) (whole : length out′ ≡ length start) where
     after : (printed + length (x .printed) ≤ length start) × (take (printed + length (x .printed)) out′ ≡ take printed out ++ x .printed) × (drop (printed + length (x .printed)) out′ ≡ drop (printed + length (x .printed)) start)
     after = (
       fits-after start out (x .printed) out′ printed (w .same) (w .fits) (w .rest) (tells .lines) whole,
@@ -120,11 +120,11 @@ module _ (p₀ : Player) (t₀ s start : List ℕ) where
     fits-on = rw (tells .printed) (after .0)
 
     -- it is all that is left
-    pub ends : played (length start - printed) p t (drop read s) ≡ x → Tells (turned (r .player) (read + r .read) (printed + r .printed) (r .bad)) t′ start out′ 0 (played (length start) p₀ t₀ s)
+    pub ends : played (length start - printed) p t (drop read s) ≡ x → Matches (stepResult (r .session) (read + r .read) (printed + r .printed) (r .bad)) t′ start out′ 0 (played (length start) p₀ t₀ s)
     ends e =
         rw (w .total, e)
         (record {
-          player = tells .player;
+          session = tells .session;
           words = tells .words;
           read = ap (λ n. read + n) (tells .read);
           printed = rw (tells .printed, length-append (take printed out) (x .printed), length-take-le printed out (omega (arith, w .same, w .fits)));
@@ -133,16 +133,16 @@ module _ (p₀ : Player) (t₀ s start : List ℕ) where
         })
 
   -- one more turn
-  module _ (p : Player) (t out : List ℕ) (read printed : ℕ) (w : Went p t out read printed) (room : recordRoom ≤ length start - printed) (r : Turned) (t′ out′ : List ℕ) (tells : Tells r t′ out out′ printed (turn p t (drop read s))) (whole : length out′ ≡ length start) where
-    abbrev X : Turn
-    X = turn p t (drop read s)
+  module _ (p : Session) (t out : List ℕ) (read printed : ℕ) (w : Went p t out read printed) (room : recordRoom ≤ length start - printed) (r : StepResult) (t′ out′ : List ℕ) (tells : Matches r t′ out out′ printed (stepRecord p t (drop read s))) (whole : length out′ ≡ length start) where
+    abbrev X : RecordStep
+    X = stepRecord p t (drop read s)
 
     -- it works a record
-    pub goes-on : 0 < r .read → read + r .read ≤ length s → Went (r .player) t′ out′ (read + r .read) (printed + r .printed)
+    pub goes-on : 0 < r .read → read + r .read ≤ length s → Went (r .session) t′ out′ (read + r .read) (printed + r .printed)
     goes-on h l =
         let left : length start - (printed + length (X .printed)) ≡ length start - printed - length (X .printed) = omega arith in
         let a = after p t out read printed w X r t′ out′ tells whole in
-        rw (tells .player, tells .words, tells .read, tells .printed)
+        rw (tells .session, tells .words, tells .read, tells .printed)
         (record {
           same = whole;
           within = rw (sym (tells .read)) l;
@@ -156,15 +156,15 @@ module _ (p₀ : Player) (t₀ s start : List ℕ) where
         })
 
     -- it works none: that was the last
-    pub stops : r .read ≡ 0 → Tells (turned (r .player) (read + r .read) (printed + r .printed) (r .bad)) t′ start out′ 0 (played (length start) p₀ t₀ s)
+    pub stops : r .read ≡ 0 → Matches (stepResult (r .session) (read + r .read) (printed + r .printed) (r .bad)) t′ start out′ 0 (played (length start) p₀ t₀ s)
     stops e = ends p t out read printed w X r t′ out′ tells whole (play-stop (length start - printed) p t (drop read s) room (sym (tells .read) ∙ e))
 
   -- there is no room for the lines of one more
-  pub fills : (p : Player) (t out : List ℕ) (read printed : ℕ) → Went p t out read printed → length start - printed < recordRoom → Tells (turned p read printed false) t start out 0 (played (length start) p₀ t₀ s)
+  pub fills : (p : Session) (t out : List ℕ) (read printed : ℕ) → Went p t out read printed → length start - printed < recordRoom → Matches (stepResult p read printed false) t start out 0 (played (length start) p₀ t₀ s)
   fills p t out read printed w h =
       rw (w .total, play-full (length start - printed) p t (drop read s) h)
       (record {
-        player = refl;
+        session = refl;
         words = refl;
         read = sym (add-zero read);
         printed = rw (append-nil (take printed out)) (sym (length-take-le printed out (omega (arith, w .same, w .fits))));

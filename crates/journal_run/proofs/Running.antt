@@ -12,7 +12,7 @@ use Rattle.rules.specs.declared.Access.{Access}
 use Rattle.rules.specs.declared.State.{State}
 use Rattle.rules.specs.Sizes.{faultSize, statusSize}
 use Rattle.rules.specs.Configuration.{Config, windowLast}
-use Rattle.rules.specs.State.{World, Device, Shaped, configOf, trimmed, stateOf, write}
+use Rattle.rules.specs.State.{World, Device, Lengths, configOf, trimmed, stateOf, write}
 use Rattle.rules.specs.Device.{request, reset, fetch, Call, of-guest, access-by, Reply, numbered, caller, performed, step}
 use Rattle.rules.specs.Sound.{sound}
 use Rattle.rules.proofs.Claims.{calls-keep-sound}
@@ -25,25 +25,25 @@ use Rattle.call_access.proofs.Stepping.{access-answered}
 use Rattle.journal_records.specs.declared.Item.{Item}
 use Rattle.journal_records.specs.declared.Item.the-variants.{Cut, Wrong, NamedGuest, NamedEndpoint, Start, Request, AccessBy, Reset, Fetch}
 use Rattle.journal_records.specs.Items.{front, requestBytes}
-use Rattle.journal_session.specs.declared.player.Player.{Player}
-use Rattle.journal_session.specs.declared.player.Turned.{Turned}
-use Rattle.journal_session.specs.Turns.{idle, playerDevice, fetchedTurn, running, turnOf, turn, requestedTurn, accessedTurn, clearedTurn}
-use Rattle.journal_session.specs.Telling.{Tells}
-use Rattle.journal_session.proofs.Telling.{tells-silent}
-use Rattle.journal_run.specs.declared.calls.Ran.{Ran}
+use Rattle.journal_session.specs.declared.session.Session.{Session}
+use Rattle.journal_session.specs.declared.session.StepResult.{StepResult}
+use Rattle.journal_session.specs.Steps.{unread, sessionDevice, fetchedStep, running, stepOf, stepRecord, requestedStep, accessedStep, clearedStep}
+use Rattle.journal_session.specs.Matching.{Matches}
+use Rattle.journal_session.proofs.Matching.{matches-silent}
+use Rattle.journal_run.specs.declared.calls.RunStep.{RunStep}
 use Rattle.journal_run.specs.Running.{Ready, ranTo}
-use Rattle.refinement.specs.Translating.{accessFlat}
+use Rattle.refinement.specs.Translating.{accessWhole}
 use Rattle.refinement.specs.Resetting.{resetWhole}
-use Rattle.refinement.specs.Fetching.{fetchedFlat}
+use Rattle.refinement.specs.Fetching.{fetchedWhole}
 
 -- a player that has started runs
-pub runs : (p : Player) → p .started ≡ true → running (p .state) ≡ p
+pub runs : (p : Session) → p .started ≡ true → running (p .state) ≡ p
 runs p e = ap (λ (z : Bool). record { started = z; state = p .state }) (sym e)
 
 -- WHAT A CALL KEEPS
 
 -- what is written has the lengths of a state's arrays
-write-shaped : (c : Config) (w : World) → Shaped (write c w .state)
+write-shaped : (c : Config) (w : World) → Lengths (write c w .state)
 unfolding write stateOf trimmed
 write-shaped c w =
     record {
@@ -62,13 +62,13 @@ write-shaped c w =
       addresses = length-tab _ _;
     }
 
-step-shaped : (d : Device) → Shaped (d .state) → (x : Call) → Shaped (step d x .1 .state)
+step-shaped : (d : Device) → Lengths (d .state) → (x : Call) → Lengths (step d x .1 .state)
 unfolding step performed
 step-shaped d k x =
     either-way Kept (not (numbered (configOf (d .state)) x)) (λ _. k) (λ _. either-way Kept (not (sound d)) (λ _. k) (λ _. go (caller (configOf (d .state)) x)))
   where
     Kept : Reply × Device → Type 0
-    Kept r = Shaped (r .1 .state)
+    Kept r = Lengths (r .1 .state)
 
     go : (m : Option Guest) → Kept (performed d m x)
     go none = k
@@ -78,8 +78,8 @@ call-keeps : (d : Device) → Ready d → (x : Call) → Ready (step d x .1)
 call-keeps d h x = record { on = calls-keep-sound d (h .on) x; shape = step-shaped d (h .shape) x }
 
 module _ (s : State) (t b : List ℕ) (h : Ready (device s t)) where
-  item-keeps : (i : Item) → let x = turnOf (running s) t b i in Ready (playerDevice (x .player) (x .table))
-  unfolding turnOf
+  item-keeps : (i : Item) → let x = stepOf (running s) t b i in Ready (sessionDevice (x .session) (x .table))
+  unfolding stepOf
   item-keeps Cut = h
   item-keeps Wrong = h
   item-keeps (NamedGuest f) = h
@@ -91,34 +91,34 @@ module _ (s : State) (t b : List ℕ) (h : Ready (device s t)) where
   item-keeps (Fetch g n) = call-keeps (device s t) h (of-guest g (fetch (replicate (faultSize * n) 0)))
 
   -- what a record leaves is ready for the next
-  pub stays-ready : {r : Turned} {words out left : List ℕ} {k : ℕ} → Tells r words out left k (turn (running s) t b) → Ready (playerDevice (r .player) words)
-  unfolding turn
-  stays-ready tells = rw (tells .player, tells .words) (item-keeps (front b))
+  pub stays-ready : {r : StepResult} {words out left : List ℕ} {k : ℕ} → Matches r words out left k (stepRecord (running s) t b) → Ready (sessionDevice (r .session) words)
+  unfolding stepRecord
+  stays-ready tells = rw (tells .session, tells .words) (item-keeps (front b))
 
 -- WHAT IS TOLD OF A RECORD
 
 -- no record is worked
-pub tells-stop : (s : ℕ → State) {r : Ran} {live k : ℕ} {bad : Bool} {t out : List ℕ} → r ≡ record { live = live; read = 0; printed = 0; bad = bad } → Tells (ranTo (s (r .live)) r) t out out k (idle (running (s live)) t bad)
-tells-stop s e = rw e (tells-silent refl)
+pub tells-stop : (s : ℕ → State) {r : RunStep} {live k : ℕ} {bad : Bool} {t out : List ℕ} → r ≡ record { live = live; read = 0; printed = 0; bad = bad } → Matches (ranTo (s (r .live)) r) t out out k (unread (running (s live)) t bad)
+tells-stop s e = rw e (matches-silent refl)
 
-module _ (s : State) (t b : List ℕ) {r : Turned} {words out left : List ℕ} {k : ℕ} where
-  pub told-item : {i : Item} → front b ≡ i → Tells r words out left k (turnOf (running s) t b i) → Tells r words out left k (turn (running s) t b)
-  unfolding turn
+module _ (s : State) (t b : List ℕ) {r : StepResult} {words out left : List ℕ} {k : ℕ} where
+  pub told-item : {i : Item} → front b ≡ i → Matches r words out left k (stepOf (running s) t b i) → Matches r words out left k (stepRecord (running s) t b)
+  unfolding stepRecord
   told-item e x = rw e x
 
   module _ (h : Ready (device s t)) where
-    pub told-request : (g : Guest) → front b ≡ Request g → Tells r words out left k (requestedTurn b (requestFlat (device s t) g (requestBytes b) (replicate statusSize 0))) → Tells r words out left k (turn (running s) t b)
-    unfolding turnOf
-    told-request g e x = told-item e (subst (λ (y : Reply × Device). Tells r words out left k (requestedTurn b y)) (request-step (device s t) (h .on) (h .shape) g (requestBytes b) (replicate statusSize 0)) x)
+    pub told-request : (g : Guest) → front b ≡ Request g → Matches r words out left k (requestedStep b (requestFlat (device s t) g (requestBytes b) (replicate statusSize 0))) → Matches r words out left k (stepRecord (running s) t b)
+    unfolding stepOf
+    told-request g e x = told-item e (subst (λ (y : Reply × Device). Matches r words out left k (requestedStep b y)) (request-step (device s t) (h .on) (h .shape) g (requestBytes b) (replicate statusSize 0)) x)
 
-    pub told-access : ((i : ℕ) → windowLast (s .settings) i ≤ 18446744073709551615) → (a : Access) → front b ≡ AccessBy a → Tells r words out left k (accessedTurn b (accessFlat (device s t) a)) → Tells r words out left k (turn (running s) t b)
-    unfolding turnOf
-    told-access wide a e x = told-item e (subst (λ (y : Reply × Device). Tells r words out left k (accessedTurn b y)) (access-answered (device s t) (h .on) (h .shape) wide a) x)
+    pub told-access : ((i : ℕ) → windowLast (s .settings) i ≤ 18446744073709551615) → (a : Access) → front b ≡ AccessBy a → Matches r words out left k (accessedStep b (accessWhole (device s t) a)) → Matches r words out left k (stepRecord (running s) t b)
+    unfolding stepOf
+    told-access wide a e x = told-item e (subst (λ (y : Reply × Device). Matches r words out left k (accessedStep b y)) (access-answered (device s t) (h .on) (h .shape) wide a) x)
 
-    pub told-reset : (g : Guest) → front b ≡ Reset g → Tells r words out left k (clearedTurn b (resetWhole (s .settings .guests) (device s t) g)) → Tells r words out left k (turn (running s) t b)
-    unfolding turnOf
-    told-reset g e x = told-item e (subst (λ (y : Reply × Device). Tells r words out left k (clearedTurn b y)) (reset-is-step (device s t) (h .on) (h .shape) g) x)
+    pub told-reset : (g : Guest) → front b ≡ Reset g → Matches r words out left k (clearedStep b (resetWhole (s .settings .guests) (device s t) g)) → Matches r words out left k (stepRecord (running s) t b)
+    unfolding stepOf
+    told-reset g e x = told-item e (subst (λ (y : Reply × Device). Matches r words out left k (clearedStep b y)) (reset-is-step (device s t) (h .on) (h .shape) g) x)
 
-    pub told-fetch : (g : Guest) (n : ℕ) → front b ≡ Fetch g n → Tells r words out left k (fetchedTurn b (fetchedFlat (s .settings .guests) (device s t) g (replicate (faultSize * n) 0))) → Tells r words out left k (turn (running s) t b)
-    unfolding turnOf
-    told-fetch g n e x = told-item e (subst (λ (y : Reply × Device). Tells r words out left k (fetchedTurn b y)) (fetch-is-step (device s t) (h .on) (h .shape) g (replicate (faultSize * n) 0)) x)
+    pub told-fetch : (g : Guest) (n : ℕ) → front b ≡ Fetch g n → Matches r words out left k (fetchedStep b (fetchedWhole (s .settings .guests) (device s t) g (replicate (faultSize * n) 0))) → Matches r words out left k (stepRecord (running s) t b)
+    unfolding stepOf
+    told-fetch g n e x = told-item e (subst (λ (y : Reply × Device). Matches r words out left k (fetchedStep b y)) (fetch-is-step (device s t) (h .on) (h .shape) g (replicate (faultSize * n) 0)) x)

@@ -10,45 +10,45 @@ use borrow.Author.Tests.{eqb-true, eqb-false, ltb-true}
 use Rattle.laws.proofs.Tests.{either-way, true-false}
 use Rattle.journal_records.specs.Items.{longestBody, bodyLength, kindOf, sizeOf, itemOf, front}
 use Rattle.journal_records.proofs.Fields.{body-most}
-use Rattle.journal_session.specs.declared.player.Player.{Player}
-use Rattle.journal_session.specs.Turns.{recordRoom, Turn, idle, turn}
+use Rattle.journal_session.specs.declared.session.Session.{Session}
+use Rattle.journal_session.specs.Steps.{recordRoom, RecordStep, unread, stepRecord}
 use Rattle.journal_run.specs.Journal.{playedFor, played}
-use Rattle.journal_step.proofs.Reading.{turn-reads}
+use Rattle.journal_step.proofs.Reading.{step-reads}
 use Rattle.journal_run.proofs.Repeating.{play-step}
 use Rattle.journal_run.proofs.Longer.{isCut, whole-uncut}
-use Rattle.journal_run.proofs.Streaming.{turn-idle}
+use Rattle.journal_run.proofs.Streaming.{step-unread}
 
 -- no more is read than there is
-reads-for : (n room : ℕ) (p : Player) (t s : List ℕ) → playedFor n room p t s .read ≤ length s
+reads-for : (n room : ℕ) (p : Session) (t s : List ℕ) → playedFor n room p t s .read ≤ length s
 unfolding playedFor
 reads-for zero room p t s = omega arith
 reads-for (suc n) room p t s =
-    either-way (λ (x : Turn). x .read ≤ length s) (ltb room recordRoom) (λ _. omega arith) (λ _.
-    either-way (λ (x : Turn). x .read ≤ length s) (eqb (turn p t s .read) 0) (λ _. turn-reads p t s) (λ _.
-    let r = reads-for n (room - length (turn p t s .printed)) (turn p t s .player) (turn p t s .table) (drop (turn p t s .read) s) in
-    omega (arith, r, length-drop (turn p t s .read) s, turn-reads p t s)))
+    either-way (λ (x : RecordStep). x .read ≤ length s) (ltb room recordRoom) (λ _. omega arith) (λ _.
+    either-way (λ (x : RecordStep). x .read ≤ length s) (eqb (stepRecord p t s .read) 0) (λ _. step-reads p t s) (λ _.
+    let r = reads-for n (room - length (stepRecord p t s .printed)) (stepRecord p t s .session) (stepRecord p t s .table) (drop (stepRecord p t s .read) s) in
+    omega (arith, r, length-drop (stepRecord p t s .read) s, step-reads p t s)))
 
-module _ (room : ℕ) (p : Player) (t s : List ℕ) where
+module _ (room : ℕ) (p : Session) (t s : List ℕ) where
   pub played-reads : played room p t s .read ≤ length s
   played-reads = reads-for (suc (length s)) room p t s
 
   -- where no record is worked, nothing changes and nothing is printed
-  pub played-idle : played room p t s .read ≡ 0 → played room p t s ≡ idle p t (played room p t s .bad)
+  pub played-unread : played room p t s .read ≡ 0 → played room p t s ≡ unread p t (played room p t s .bad)
   unfolding playedFor
-  played-idle =
-      either-way (λ (x : Turn). x .read ≡ 0 → x ≡ idle p t (x .bad)) (ltb room recordRoom) (λ _ h. refl) (λ _.
-      either-way (λ (x : Turn). x .read ≡ 0 → x ≡ idle p t (x .bad)) (eqb (turn p t s .read) 0) (λ _ h. turn-idle p t s h .same) (λ e h.
-      let r = eqb-false (turn p t s .read) 0 e in
+  played-unread =
+      either-way (λ (x : RecordStep). x .read ≡ 0 → x ≡ unread p t (x .bad)) (ltb room recordRoom) (λ _ h. refl) (λ _.
+      either-way (λ (x : RecordStep). x .read ≡ 0 → x ≡ unread p t (x .bad)) (eqb (stepRecord p t s .read) 0) (λ _ h. step-unread p t s h .same) (λ e h.
+      let r = eqb-false (stepRecord p t s .read) 0 e in
       absurd (omega (arith, r, h))))
 
   -- where there is room, that is because the first is not worked
-  pub first-stays : recordRoom ≤ room → played room p t s .read ≡ 0 → turn p t s .read ≡ 0
-  first-stays l h = go (eqb (turn p t s .read) 0) refl
+  pub first-stays : recordRoom ≤ room → played room p t s .read ≡ 0 → stepRecord p t s .read ≡ 0
+  first-stays l h = go (eqb (stepRecord p t s .read) 0) refl
     where
-      go : (b : Bool) → eqb (turn p t s .read) 0 ≡ b → turn p t s .read ≡ 0
-      go true e = eqb-true (turn p t s .read) 0 e
+      go : (b : Bool) → eqb (stepRecord p t s .read) 0 ≡ b → stepRecord p t s .read ≡ 0
+      go true e = eqb-true (stepRecord p t s .read) 0 e
       go false e =
-          let r = eqb-false (turn p t s .read) 0 e in
+          let r = eqb-false (stepRecord p t s .read) 0 e in
           let m = ap (λ x. x .read) (play-step room p t s l (omega (arith, r))) in
           absurd (omega (arith, r, h, m))
 

@@ -9,12 +9,12 @@ ghost use Rattle.rules.specs.declared.State.{State};
 ghost use Rattle.rules.specs.Sizes.{maxFaults, faultSize, statusSize};
 ghost use Rattle.state_fields.specs.Fields.{withSettings, withEndpoints, withLive, withLogs};
 ghost use Rattle.refinement.specs.Flat.{device};
-ghost use Rattle.journal_session.specs.Turns.{recordRoom, requestedTurn, accessedTurn, clearedTurn, fetchedTurn};
-ghost use Rattle.journal_session.specs.Telling.{Tells};
+ghost use Rattle.journal_session.specs.Steps.{recordRoom, requestedStep, accessedStep, clearedStep, fetchedStep};
+ghost use Rattle.journal_session.specs.Matching.{Matches};
 ghost use Rattle.refinement.specs.Requesting.{requestFlat};
-ghost use Rattle.refinement.specs.Translating.{accessFlat};
+ghost use Rattle.refinement.specs.Translating.{accessWhole};
 ghost use Rattle.refinement.specs.Resetting.{resetWhole};
-ghost use Rattle.refinement.specs.Fetching.{fetchedFlat};
+ghost use Rattle.refinement.specs.Fetching.{fetchedWhole};
 ghost use Rattle.journal_run.specs.Running.{ranTo};
 use call_access::make_access;
 use call_reset::reset_guest;
@@ -36,7 +36,7 @@ use rules::sizes::STATUS_SIZE;
 
 // What records leave besides the lent arrays: how many mappings are live, the bytes read (0 where no record is worked) and
 // printed, and whether the journal is bad there.
-pub struct Ran {
+pub struct RunStep {
     pub live: usize,
     pub read: usize,
     pub printed: usize,
@@ -44,10 +44,10 @@ pub struct Ran {
 }
 
 // The record at the front of b is worked, and k bytes are printed.
-fn consumed(live: usize, b: &[u8], k: usize) -> Ran
+fn consumed(live: usize, b: &[u8], k: usize) -> RunStep
     ensures { λ r. ⌜ r ≡ record { live = live; read = sizeOf (now (b .entry)); printed = k; bad = false } ⌝ }
 {
-    Ran {
+    RunStep {
         live,
         read: journal_records::size_of(b),
         printed: k,
@@ -69,12 +69,12 @@ pub(crate) fn work_request<'a>(
     g: Guest,
     out: &'a mut [u8],
     at: usize,
-) -> Ran
+) -> RunStep
     requires { ⌜ Fits (now b) × (at + recordRoom ≤ length (now out)) ⌝ }
-    ensures { λ r. ⌜ ((s : State) → Tells
+    ensures { λ r. ⌜ ((s : State) → Matches
         (ranTo (withSettings settings (withEndpoints listed (now (endpoints .entry)) (now (owners .entry)) (now (attached .exit)) (now (domains .exit)) (r .live) s)) r)
         (now (t .exit)) (now (out .entry)) (now (out .exit)) at
-        (requestedTurn (now (b .entry)) (requestFlat (device (withSettings settings (withEndpoints listed (now (endpoints .entry)) (now (owners .entry)) (now (attached .entry)) (now (domains .entry)) live s)) (now (t .entry))) g (requestBytes (now (b .entry))) (replicate statusSize 0)))) ⌝ }
+        (requestedStep (now (b .entry)) (requestFlat (device (withSettings settings (withEndpoints listed (now (endpoints .entry)) (now (owners .entry)) (now (attached .entry)) (now (domains .entry)) live s)) (now (t .entry))) g (requestBytes (now (b .entry))) (replicate statusSize 0)))) ⌝ }
 {
     let n = journal_records::size_of(b);
     let mut writable: [u8; STATUS_SIZE] = [0; STATUS_SIZE];
@@ -115,12 +115,12 @@ pub(crate) fn work_access<'a>(
     a: Access,
     out: &'a mut [u8],
     at: usize,
-) -> Ran
+) -> RunStep
     requires { ⌜ at + recordRoom ≤ length (now out) ⌝ }
-    ensures { λ r. ⌜ ((s : State) → Tells
+    ensures { λ r. ⌜ ((s : State) → Matches
         (ranTo (withEndpoints listed (now (endpoints .entry)) (now (owners .entry)) (now (attached .entry)) (now (domains .entry)) (r .live) (withLogs (now (logged .exit)) (now (lost .exit)) (now (reasons .exit)) (now (flags .exit)) (now (sources .exit)) (now (addresses .exit)) s)) r)
         (now (t .entry)) (now (out .entry)) (now (out .exit)) at
-        (accessedTurn (now (b .entry)) (accessFlat (device (withEndpoints listed (now (endpoints .entry)) (now (owners .entry)) (now (attached .entry)) (now (domains .entry)) live (withLogs (now (logged .entry)) (now (lost .entry)) (now (reasons .entry)) (now (flags .entry)) (now (sources .entry)) (now (addresses .entry)) s)) (now (t .entry))) a))) ⌝ }
+        (accessedStep (now (b .entry)) (accessWhole (device (withEndpoints listed (now (endpoints .entry)) (now (owners .entry)) (now (attached .entry)) (now (domains .entry)) live (withLogs (now (logged .entry)) (now (lost .entry)) (now (reasons .entry)) (now (flags .entry)) (now (sources .entry)) (now (addresses .entry)) s)) (now (t .entry))) a))) ⌝ }
 {
     let answer = make_access(
         listed,
@@ -161,12 +161,12 @@ pub(crate) fn work_reset<'a>(
     g: Guest,
     out: &'a mut [u8],
     at: usize,
-) -> Ran
+) -> RunStep
     requires { ⌜ at + recordRoom ≤ length (now out) ⌝ }
-    ensures { λ r. ⌜ ((s : State) → Tells
+    ensures { λ r. ⌜ ((s : State) → Matches
         (ranTo (withEndpoints listed (s .endpoints) (now (owners .entry)) (now (attached .exit)) (now (domains .exit)) (r .live) (withLogs (now (logged .exit)) (now (lost .exit)) (now (reasons .exit)) (now (flags .exit)) (now (sources .exit)) (now (addresses .exit)) s)) r)
         (now (t .exit)) (now (out .entry)) (now (out .exit)) at
-        (clearedTurn (now (b .entry)) (resetWhole guests (device (withEndpoints listed (s .endpoints) (now (owners .entry)) (now (attached .entry)) (now (domains .entry)) live (withLogs (now (logged .entry)) (now (lost .entry)) (now (reasons .entry)) (now (flags .entry)) (now (sources .entry)) (now (addresses .entry)) s)) (now (t .entry))) g))) ⌝ }
+        (clearedStep (now (b .entry)) (resetWhole guests (device (withEndpoints listed (s .endpoints) (now (owners .entry)) (now (attached .entry)) (now (domains .entry)) live (withLogs (now (logged .entry)) (now (lost .entry)) (now (reasons .entry)) (now (flags .entry)) (now (sources .entry)) (now (addresses .entry)) s)) (now (t .entry))) g))) ⌝ }
 {
     let x = reset_guest(
         guests,
@@ -203,12 +203,12 @@ fn fetch_into<'a>(
     buffer: &'a mut [u8],
     out: &'a mut [u8],
     at: usize,
-) -> Ran
+) -> RunStep
     requires { ⌜ (length (now buffer) ≤ faultSize * maxFaults) × (at + recordRoom ≤ length (now out)) ⌝ }
-    ensures { λ r. ⌜ ((s : State) (t : List ℕ) → Tells
+    ensures { λ r. ⌜ ((s : State) (t : List ℕ) → Matches
         (ranTo (withLive (r .live) (withLogs (now (logged .exit)) (s .lost) (now (reasons .exit)) (now (flags .exit)) (now (sources .exit)) (now (addresses .exit)) s)) r)
         t (now (out .entry)) (now (out .exit)) at
-        (fetchedTurn (now (b .entry)) (fetchedFlat guests (device (withLive live (withLogs (now (logged .entry)) (s .lost) (now (reasons .entry)) (now (flags .entry)) (now (sources .entry)) (now (addresses .entry)) s)) t) g (now (buffer .entry))))) ⌝ }
+        (fetchedStep (now (b .entry)) (fetchedWhole guests (device (withLive live (withLogs (now (logged .entry)) (s .lost) (now (reasons .entry)) (now (flags .entry)) (now (sources .entry)) (now (addresses .entry)) s)) t) g (now (buffer .entry))))) ⌝ }
 {
     let answer = fetch_faults(
         guests,
@@ -241,12 +241,12 @@ pub(crate) fn work_fetch<'a>(
     n: usize,
     out: &'a mut [u8],
     at: usize,
-) -> Ran
+) -> RunStep
     requires { ⌜ (n ≤ maxFaults) × (at + recordRoom ≤ length (now out)) ⌝ }
-    ensures { λ r. ⌜ ((s : State) (t : List ℕ) → Tells
+    ensures { λ r. ⌜ ((s : State) (t : List ℕ) → Matches
         (ranTo (withLive (r .live) (withLogs (now (logged .exit)) (s .lost) (now (reasons .exit)) (now (flags .exit)) (now (sources .exit)) (now (addresses .exit)) s)) r)
         t (now (out .entry)) (now (out .exit)) at
-        (fetchedTurn (now (b .entry)) (fetchedFlat guests (device (withLive live (withLogs (now (logged .entry)) (s .lost) (now (reasons .entry)) (now (flags .entry)) (now (sources .entry)) (now (addresses .entry)) s)) t) g (replicate (faultSize * n) 0)))) ⌝ }
+        (fetchedStep (now (b .entry)) (fetchedWhole guests (device (withLive live (withLogs (now (logged .entry)) (s .lost) (now (reasons .entry)) (now (flags .entry)) (now (sources .entry)) (now (addresses .entry)) s)) t) g (replicate (faultSize * n) 0)))) ⌝ }
 {
     let mut buffer: [u8; FETCH_BUFFER] = [0; FETCH_BUFFER];
     let m = FAULT_SIZE * n;

@@ -5,15 +5,15 @@ ghost use mathlib.Core.Bool.{_&&_};
 ghost use Rattle.rules.specs.Sound.{sound};
 ghost use Rattle.refinement.specs.Flat.{device};
 ghost use Rattle.journal_run.specs.Journal.{played};
-ghost use Rattle.journal_session.specs.Telling.{Tells};
+ghost use Rattle.journal_session.specs.Matching.{Matches};
 use crate::run::past;
 use crate::run::run;
-use journal_session::player::Player;
-use journal_session::player::RECORD_ROOM;
-use journal_session::player::Turned;
+use journal_session::session::Session;
+use journal_session::session::RECORD_ROOM;
+use journal_session::session::StepResult;
 
 // Whether the journal has started, and state and table are sound.
-fn is_running(p: Player, t: &[u64]) -> bool
+fn is_running(p: Session, t: &[u64]) -> bool
     ensures { λ r. ⌜ r ≡ (p .started && sound (device (p .state) (now (t .entry)))) ⌝ }
 {
     if !p.started {
@@ -41,38 +41,38 @@ fn is_running(p: Player, t: &[u64]) -> bool
 
 // The records of s, the part at hand, from the first on; their lines stand at the front of out. From the first record on that finds
 // a sound device running, no test is made.
-pub fn play(p: Player, t: &mut [u64], s: &[u8], out: &mut [u8]) -> Turned
-    ensures { λ r. ⌜ Tells r (now (t .exit)) (now (out .entry)) (now (out .exit)) 0 (played (length (now (out .entry))) p (now (t .entry)) (now (s .entry))) ⌝ }
+pub fn play(p: Session, t: &mut [u64], s: &[u8], out: &mut [u8]) -> StepResult
+    ensures { λ r. ⌜ Matches r (now (t .exit)) (now (out .entry)) (now (out .exit)) 0 (played (length (now (out .entry))) p (now (t .entry)) (now (s .entry))) ⌝ }
 {
-    let mut player = p;
+    let mut session = p;
     let mut read: usize = 0;
     let mut printed: usize = 0;
     while out.len() - printed >= RECORD_ROOM {
-        if is_running(player, t) {
-            let x = run(player.state, t, &s[read..], &mut out[printed..]);
-            let last = x.player;
-            return Turned {
-                player: last,
+        if is_running(session, t) {
+            let x = run(session.state, t, &s[read..], &mut out[printed..]);
+            let last = x.session;
+            return StepResult {
+                session: last,
                 read: past(read, x.read, s.len()),
                 printed: past(printed, x.printed, out.len()),
                 bad: x.bad,
             };
         }
-        let x = journal_step::turn(player, t, &s[read..], out, printed);
-        player = x.player;
+        let x = journal_step::step_record(session, t, &s[read..], out, printed);
+        session = x.session;
         read = past(read, x.read, s.len());
         printed = past(printed, x.printed, out.len());
         if x.read == 0 {
-            return Turned {
-                player,
+            return StepResult {
+                session,
                 read,
                 printed,
                 bad: x.bad,
             };
         }
     }
-    Turned {
-        player,
+    StepResult {
+        session,
         read,
         printed,
         bad: false,

@@ -2,12 +2,12 @@
 ghost use Prim.Native.Nat.{_+_, _≤_};
 ghost use lib.ListN.{length};
 ghost use mathlib.Core.Path.{_≡_};
-ghost use Rattle.sound.specs.Pieces.{deviceWith};
-ghost use Rattle.state_fields.specs.Pieces.{stateWith};
-ghost use Rattle.journal_session.specs.Turns.{recordRoom, running, turn};
-ghost use Rattle.journal_session.specs.Telling.{Tells};
+ghost use Rattle.sound.specs.Assembled.{deviceWith};
+ghost use Rattle.state_fields.specs.Assembled.{stateWith};
+ghost use Rattle.journal_session.specs.Steps.{recordRoom, running, step_record};
+ghost use Rattle.journal_session.specs.Matching.{Matches};
 ghost use Rattle.journal_run.specs.Running.{Ready, ranTo};
-use crate::calls::Ran;
+use crate::calls::RunStep;
 use crate::calls::work_access;
 use crate::calls::work_fetch;
 use crate::calls::work_request;
@@ -19,10 +19,10 @@ use rules::sizes::MAX_ENDPOINTS;
 use rules::sizes::MAX_GUESTS;
 
 // No record is worked.
-fn unread(live: usize, bad: bool) -> Ran
+fn unread(live: usize, bad: bool) -> RunStep
     ensures { λ r. ⌜ r ≡ record { live = live; read = 0; printed = 0; bad = bad } ⌝ }
 {
-    Ran {
+    RunStep {
         live,
         read: 0,
         printed: 0,
@@ -49,13 +49,13 @@ pub(crate) fn work_record<'a>(
     b: &'a [u8],
     out: &'a mut [u8],
     at: usize,
-) -> Ran
+) -> RunStep
     requires { ⌜ at + recordRoom ≤ length (now out) ⌝ }
     requires { ⌜ Ready (deviceWith settings listed live (now endpoints) (now owners) (now attached) (now domains) (now logged) (now lost) (now reasons) (now flags) (now sources) (now addresses) (now t)) ⌝ }
-    ensures { λ r. ⌜ Tells
+    ensures { λ r. ⌜ Matches
         (ranTo (stateWith settings listed (r .live) (now (endpoints .entry)) (now (owners .entry)) (now (attached .exit)) (now (domains .exit)) (now (logged .exit)) (now (lost .exit)) (now (reasons .exit)) (now (flags .exit)) (now (sources .exit)) (now (addresses .exit))) r)
         (now (t .exit)) (now (out .entry)) (now (out .exit)) at
-        (turn (running (stateWith settings listed live (now (endpoints .entry)) (now (owners .entry)) (now (attached .entry)) (now (domains .entry)) (now (logged .entry)) (now (lost .entry)) (now (reasons .entry)) (now (flags .entry)) (now (sources .entry)) (now (addresses .entry)))) (now (t .entry)) (now (b .entry))) ⌝ }
+        (step_record (running (stateWith settings listed live (now (endpoints .entry)) (now (owners .entry)) (now (attached .entry)) (now (domains .entry)) (now (logged .entry)) (now (lost .entry)) (now (reasons .entry)) (now (flags .entry)) (now (sources .entry)) (now (addresses .entry)))) (now (t .entry)) (now (b .entry))) ⌝ }
 {
     match journal_records::front(b) {
         Item::Cut => unread(live, false),

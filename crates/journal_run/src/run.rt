@@ -6,17 +6,17 @@ ghost use mathlib.Core.Path.{_≡_};
 ghost use mathlib.Core.Bool.{true};
 ghost use Rattle.rules.specs.Sound.{sound};
 ghost use Rattle.refinement.specs.Flat.{device};
-ghost use Rattle.state_fields.specs.Pieces.{stateWith};
-ghost use Rattle.sound.specs.Pieces.{deviceWith};
-ghost use Rattle.journal_session.specs.Turns.{running};
-ghost use Rattle.journal_session.specs.Telling.{Tells};
+ghost use Rattle.state_fields.specs.Assembled.{stateWith};
+ghost use Rattle.sound.specs.Assembled.{deviceWith};
+ghost use Rattle.journal_session.specs.Steps.{running};
+ghost use Rattle.journal_session.specs.Matching.{Matches};
 ghost use Rattle.journal_run.specs.Journal.{played};
 ghost use Rattle.journal_run.specs.Running.{Ready, ranTo};
-use crate::calls::Ran;
+use crate::calls::RunStep;
 use crate::record::work_record;
-use journal_session::player::Player;
-use journal_session::player::RECORD_ROOM;
-use journal_session::player::Turned;
+use journal_session::session::Session;
+use journal_session::session::RECORD_ROOM;
+use journal_session::session::StepResult;
 use rules::Settings;
 use rules::State;
 use rules::sizes::FAULT_PLACES;
@@ -49,9 +49,9 @@ fn work_records<'a>(
     t: &'a mut [u64],
     b: &'a [u8],
     out: &'a mut [u8],
-) -> Ran
+) -> RunStep
     requires { ⌜ Ready (deviceWith settings listed live (now endpoints) (now owners) (now attached) (now domains) (now logged) (now lost) (now reasons) (now flags) (now sources) (now addresses) (now t)) ⌝ }
-    ensures { λ r. ⌜ Tells
+    ensures { λ r. ⌜ Matches
         (ranTo (stateWith settings listed (r .live) (now (endpoints .entry)) (now (owners .entry)) (now (attached .exit)) (now (domains .exit)) (now (logged .exit)) (now (lost .exit)) (now (reasons .exit)) (now (flags .exit)) (now (sources .exit)) (now (addresses .exit))) r)
         (now (t .exit)) (now (out .entry)) (now (out .exit)) 0
         (played (length (now (out .entry))) (running (stateWith settings listed live (now (endpoints .entry)) (now (owners .entry)) (now (attached .entry)) (now (domains .entry)) (now (logged .entry)) (now (lost .entry)) (now (reasons .entry)) (now (flags .entry)) (now (sources .entry)) (now (addresses .entry)))) (now (t .entry)) (now (b .entry))) ⌝ }
@@ -83,7 +83,7 @@ fn work_records<'a>(
         read = past(read, x.read, b.len());
         printed = past(printed, x.printed, out.len());
         if x.read == 0 {
-            return Ran {
+            return RunStep {
                 live: count,
                 read,
                 printed,
@@ -91,7 +91,7 @@ fn work_records<'a>(
             };
         }
     }
-    Ran {
+    RunStep {
         live: count,
         read,
         printed,
@@ -100,9 +100,9 @@ fn work_records<'a>(
 }
 
 // The records of b from this state on: its arrays are taken out once and put together once.
-pub(crate) fn run(s: State, t: &mut [u64], b: &[u8], out: &mut [u8]) -> Turned
+pub(crate) fn run(s: State, t: &mut [u64], b: &[u8], out: &mut [u8]) -> StepResult
     requires { ⌜ sound (device s (now t)) ≡ true ⌝ }
-    ensures { λ r. ⌜ Tells r (now (t .exit)) (now (out .entry)) (now (out .exit)) 0 (played (length (now (out .entry))) (running s) (now (t .entry)) (now (b .entry))) ⌝ }
+    ensures { λ r. ⌜ Matches r (now (t .exit)) (now (out .entry)) (now (out .exit)) 0 (played (length (now (out .entry))) (running s) (now (t .entry)) (now (b .entry))) ⌝ }
 {
     let settings = s.settings;
     let mut attached = s.attached;
@@ -141,8 +141,8 @@ pub(crate) fn run(s: State, t: &mut [u64], b: &[u8], out: &mut [u8]) -> Turned
     next.flags = flags;
     next.sources = sources;
     next.addresses = addresses;
-    Turned {
-        player: Player {
+    StepResult {
+        session: Session {
             started: true,
             state: next,
         },

@@ -1,3 +1,3 @@
 pub mod Naming
-pub mod Turns
-pub mod Telling
+pub mod Steps
+pub mod Matching

@@ -2,13 +2,13 @@
 ghost use mathlib.Core.List.{List};
 ghost use Prim.Native.Nat.{ℕ};
 ghost use Rattle.journal_records.specs.declared.Item.the-variants.{NamedGuest, NamedEndpoint};
-ghost use Rattle.journal_session.specs.Turns.{turnOf};
-ghost use Rattle.journal_session.specs.Telling.{Tells};
+ghost use Rattle.journal_session.specs.Steps.{stepOf};
+ghost use Rattle.journal_session.specs.Matching.{Matches};
 use crate::naming;
-use crate::player::Player;
-use crate::player::Turned;
+use crate::session::Session;
+use crate::session::StepResult;
 use crate::results::consumed;
-use crate::results::idle;
+use crate::results::unread;
 use journal_records::GuestFields;
 use rules::Endpoint;
 use rules::Guest;
@@ -16,30 +16,30 @@ use rules::sizes::MAX_ENDPOINTS;
 use rules::sizes::MAX_GUESTS;
 
 // A guest is named, unless it is the fifth or the journal has started.
-pub fn guest(p: Player, s: &[u8], f: GuestFields) -> Turned
-    ensures { λ r. ⌜ ((t out : List ℕ) (k : ℕ) → Tells r t out out k (turnOf p t (now (s .entry)) (NamedGuest f))) ⌝ }
+pub fn guest(p: Session, s: &[u8], f: GuestFields) -> StepResult
+    ensures { λ r. ⌜ ((t out : List ℕ) (k : ℕ) → Matches r t out out k (stepOf p t (now (s .entry)) (NamedGuest f))) ⌝ }
 {
     let state = p.state;
     let settings = state.settings;
     if p.started {
-        return idle(p, true);
+        return unread(p, true);
     }
     if settings.guests >= MAX_GUESTS {
-        return idle(p, true);
+        return unread(p, true);
     }
     consumed(false, naming::name_guest(state, f), journal_records::size_of(s), 0)
 }
 
 // An endpoint is named, unless it is the 33rd or the journal has started.
-pub fn endpoint(p: Player, s: &[u8], e: Endpoint, g: Guest) -> Turned
-    ensures { λ r. ⌜ ((t out : List ℕ) (k : ℕ) → Tells r t out out k (turnOf p t (now (s .entry)) (NamedEndpoint e g))) ⌝ }
+pub fn endpoint(p: Session, s: &[u8], e: Endpoint, g: Guest) -> StepResult
+    ensures { λ r. ⌜ ((t out : List ℕ) (k : ℕ) → Matches r t out out k (stepOf p t (now (s .entry)) (NamedEndpoint e g))) ⌝ }
 {
     let state = p.state;
     if p.started {
-        return idle(p, true);
+        return unread(p, true);
     }
     if state.listed >= MAX_ENDPOINTS {
-        return idle(p, true);
+        return unread(p, true);
     }
     consumed(
         false,

@@ -8,7 +8,7 @@ ghost use Rattle.rules.specs.Device.{setUp};
 ghost use Rattle.refinement.specs.Setting.{configured, started};
 ghost use Rattle.state_fields.specs.Fields.{withSettings};
 ghost use Rattle.journal_session.specs.Naming.{guestNamed, endpointNamed, rangesNamed};
-use refinement::Given;
+use refinement::CallResult;
 use journal_records::GuestFields;
 use journal_records::StartFields;
 use rules::Endpoint;
@@ -73,7 +73,7 @@ fn set_up_listed(
     owners: [u8; MAX_ENDPOINTS],
     n: usize,
     t: &mut [u64],
-) -> Given
+) -> CallResult
     requires { ⌜ n ≤ maxEndpoints ⌝ }
     ensures { λ r. ⌜ (started r (now (t .exit)) ≡ setUp (configured settings (take n endpoints) (take n owners)) (now (t .entry))) × (length endpoints ≡ maxEndpoints) × (length owners ≡ maxEndpoints) ⌝ }
 {
@@ -81,7 +81,7 @@ fn set_up_listed(
 }
 
 // Set-up with the configuration named so far.
-pub fn start(s: State, t: &mut [u64], f: StartFields) -> Given
+pub fn start(s: State, t: &mut [u64], f: StartFields) -> CallResult
     ensures { λ r. ⌜ started r (now (t .exit)) ≡ setUp (configOf (withSettings (rangesNamed f (s .settings)) s)) (now (t .entry)) ⌝ }
 {
     let named = s.settings;

@@ -1,17 +1,17 @@
 // What a record leaves.
 ghost use mathlib.Core.Path.{_≡_};
 ghost use mathlib.Core.Bool.{false};
-ghost use Rattle.journal_session.specs.Telling.{turned};
-use crate::player::Player;
-use crate::player::Turned;
+ghost use Rattle.journal_session.specs.Matching.{stepResult};
+use crate::session::Session;
+use crate::session::StepResult;
 use rules::State;
 
 // No record is worked.
-pub fn idle(p: Player, bad: bool) -> Turned
-    ensures { λ r. ⌜ r ≡ turned p 0 0 bad ⌝ }
+pub fn unread(p: Session, bad: bool) -> StepResult
+    ensures { λ r. ⌜ r ≡ stepResult p 0 0 bad ⌝ }
 {
-    Turned {
-        player: p,
+    StepResult {
+        session: p,
         read: 0,
         printed: 0,
         bad,
@@ -19,11 +19,11 @@ pub fn idle(p: Player, bad: bool) -> Turned
 }
 
 // A record of n bytes is worked, and k bytes are printed.
-pub fn consumed(started: bool, state: State, n: usize, k: usize) -> Turned
-    ensures { λ r. ⌜ r ≡ turned (record { started = started; state = state }) n k false ⌝ }
+pub fn consumed(started: bool, state: State, n: usize, k: usize) -> StepResult
+    ensures { λ r. ⌜ r ≡ stepResult (record { started = started; state = state }) n k false ⌝ }
 {
-    Turned {
-        player: Player { started, state },
+    StepResult {
+        session: Session { started, state },
         read: n,
         printed: k,
         bad: false,

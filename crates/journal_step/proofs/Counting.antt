@@ -12,7 +12,7 @@ use Rattle.rules.specs.Sizes.{maxFaults, faultSize}
 use Rattle.rules.specs.State.{Device, configOf}
 use Rattle.rules.specs.Answers.{fetchedCount}
 use Rattle.rules.specs.Sound.{sound}
-use Rattle.refinement.specs.declared.Given.{Given}
+use Rattle.refinement.specs.declared.CallResult.{CallResult}
 use Rattle.refinement.specs.Replied.{replied}
 use Rattle.journal_line_fetch.specs.Lines.{fetchFits}
 use Rattle.rules.specs.Device.{Reply, step, performed, work, rule, jobRule, caller, numbered, fetch, of-guest}
@@ -30,7 +30,7 @@ module _ (d : Device) (g : Guest) (b : List ℕ) where
 
   -- so its lines fit, where the buffer holds no more records than a fetch may ask for
   pub fetch-fits :
-      (given : Given) (buffer table : List ℕ)
+      (given : CallResult) (buffer table : List ℕ)
       → replied given buffer table ≡ step d (of-guest g (fetch b))
       → length buffer ≡ length b
       → length b ≤ faultSize * maxFaults

@@ -11,9 +11,9 @@ use Rattle.laws.proofs.Tests.{either-way, true-false}
 use Rattle.rules.specs.Sizes.{maxGuests, maxEndpoints, maxFaults}
 use Rattle.journal_records.specs.declared.Item.{Item}
 use Rattle.journal_records.specs.declared.Item.the-variants.{Cut, Wrong, NamedGuest, NamedEndpoint, Start, Request, AccessBy, Reset, Fetch}
-use Rattle.journal_session.specs.declared.player.Player.{Player}
+use Rattle.journal_session.specs.declared.session.Session.{Session}
 use Rattle.journal_records.specs.Items.{GUEST, ENDPOINT, START, ACCESS, RESET, FETCH, bodyLength, kindOf, sizeOf, itemOf, front, Fits}
-use Rattle.journal_session.specs.Turns.{Turn, idle, allowed, guestTurn, endpointTurn, startTurn, requestTurn, accessTurn, resetTurn, fetchTurn, turnOf, turn}
+use Rattle.journal_session.specs.Steps.{RecordStep, unread, allowed, guestStep, endpointStep, startStep, requestStep, accessStep, resetStep, fetchStep, stepOf, stepRecord}
 
 -- there is a record to be worked
 abbrev pub works : Item → Bool
@@ -37,30 +37,30 @@ front-fits s =
     let m = eqb-false (bodyLength (kindOf s)) 0 b in
     (omega (arith, n), omega (arith, m), ltb-false (length s) (sizeOf s) c))))
 
-module _ (p : Player) (t s : List ℕ) where
+module _ (p : Session) (t s : List ℕ) where
   -- a turn reads the record at the front, or nothing
-  abbrev ReadsWell : Turn → Type 0
+  abbrev ReadsWell : RecordStep → Type 0
   ReadsWell x = x .read ≤ length s
 
-  may-read : (b : Bool) (x : Turn) → x .read ≡ sizeOf s → Fits s → ReadsWell (allowed b p t x)
-  may-read b x e f = either-way ReadsWell b {x = x} {y = idle p t true} (λ _. omega (arith, e, f .2)) (λ _. omega arith)
+  may-read : (b : Bool) (x : RecordStep) → x .read ≡ sizeOf s → Fits s → ReadsWell (allowed b p t x)
+  may-read b x e f = either-way ReadsWell b {x = x} {y = unread p t true} (λ _. omega (arith, e, f .2)) (λ _. omega arith)
 
-  reads-well : (i : Item) → (works i ≡ true → Fits s) → ReadsWell (turnOf p t s i)
-  unfolding turnOf
+  reads-well : (i : Item) → (works i ≡ true → Fits s) → ReadsWell (stepOf p t s i)
+  unfolding stepOf
   reads-well Cut f = omega arith
   reads-well Wrong f = omega arith
-  reads-well (NamedGuest x) f = may-read (not (p .started) && ltb (p .state .settings .guests) maxGuests) (guestTurn p t s x) refl (f refl)
-  reads-well (NamedEndpoint e g) f = may-read (not (p .started) && ltb (p .state .listed) maxEndpoints) (endpointTurn p t s e g) refl (f refl)
-  reads-well (Start x) f = may-read (not (p .started)) (startTurn p t s x) refl (f refl)
-  reads-well (Request g) f = may-read (p .started) (requestTurn p t s g) refl (f refl)
-  reads-well (AccessBy x) f = may-read (p .started) (accessTurn p t s x) refl (f refl)
-  reads-well (Reset g) f = may-read (p .started) (resetTurn p t s g) refl (f refl)
-  reads-well (Fetch g n) f = may-read (p .started) (fetchTurn p t s g n) refl (f refl)
+  reads-well (NamedGuest x) f = may-read (not (p .started) && ltb (p .state .settings .guests) maxGuests) (guestStep p t s x) refl (f refl)
+  reads-well (NamedEndpoint e g) f = may-read (not (p .started) && ltb (p .state .listed) maxEndpoints) (endpointStep p t s e g) refl (f refl)
+  reads-well (Start x) f = may-read (not (p .started)) (startStep p t s x) refl (f refl)
+  reads-well (Request g) f = may-read (p .started) (requestStep p t s g) refl (f refl)
+  reads-well (AccessBy x) f = may-read (p .started) (accessStep p t s x) refl (f refl)
+  reads-well (Reset g) f = may-read (p .started) (resetStep p t s g) refl (f refl)
+  reads-well (Fetch g n) f = may-read (p .started) (fetchStep p t s g n) refl (f refl)
 
   -- no turn reads more than there is
-  pub turn-reads : turn p t s .read ≤ length s
-  unfolding turn
-  turn-reads = reads-well (front s) (front-fits s)
+  pub step-reads : stepRecord p t s .read ≤ length s
+  unfolding stepRecord
+  step-reads = reads-well (front s) (front-fits s)
 
 -- a fetch asks for no more records than a log holds
 abbrev pub Most : Item → Type 0

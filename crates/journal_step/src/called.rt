@@ -8,18 +8,18 @@ ghost use Rattle.journal_records.specs.Items.{Fits, sizeOf};
 ghost use Rattle.rules.specs.Sizes.{maxFaults, faultSize};
 ghost use Rattle.rules.specs.Device as rules;
 ghost use Rattle.refinement.specs.Flat.{device};
-ghost use Rattle.journal_session.specs.Turns.{recordRoom, running, turnOf, fetchedTurn};
-ghost use Rattle.journal_session.specs.Telling.{turned, Tells};
-use refinement::Given;
+ghost use Rattle.journal_session.specs.Steps.{recordRoom, running, stepOf, fetchedStep};
+ghost use Rattle.journal_session.specs.Matching.{stepResult, Matches};
+use refinement::CallResult;
 use journal_line_fetch::put_fetch;
 use journal_records::StartFields;
 use journal_line_call::put_access;
 use journal_line_call::put_request;
 use journal_session::naming;
-use journal_session::player::Player;
-use journal_session::player::Turned;
+use journal_session::session::Session;
+use journal_session::session::StepResult;
 use journal_session::results::consumed;
-use journal_session::results::idle;
+use journal_session::results::unread;
 use rules::Access;
 use rules::Guest;
 use rules::State;
@@ -28,26 +28,26 @@ use rules::sizes::MAX_FAULTS;
 use rules::sizes::STATUS_SIZE;
 
 // What a call leaves that has given this: its record is worked, and k bytes are printed.
-fn finished(given: Given, s: &[u8], k: usize) -> Turned
-    ensures { λ r. ⌜ r ≡ turned (running (given .state)) (sizeOf (now (s .entry))) k false ⌝ }
+fn finished(given: CallResult, s: &[u8], k: usize) -> StepResult
+    ensures { λ r. ⌜ r ≡ stepResult (running (given .state)) (sizeOf (now (s .entry))) k false ⌝ }
 {
     consumed(true, given.state, journal_records::size_of(s), k)
 }
 
 // Set-up with what was named, unless the journal has started.
 pub(crate) fn start(
-    p: Player,
+    p: Session,
     t: &mut [u64],
     s: &[u8],
     f: StartFields,
     out: &mut [u8],
     at: usize,
-) -> Turned
+) -> StepResult
     requires { ⌜ at + recordRoom ≤ length (now out) ⌝ }
-    ensures { λ r. ⌜ Tells r (now (t .exit)) (now (out .entry)) (now (out .exit)) at (turnOf p (now (t .entry)) (now (s .entry)) (item.Start f)) ⌝ }
+    ensures { λ r. ⌜ Matches r (now (t .exit)) (now (out .entry)) (now (out .exit)) at (stepOf p (now (t .entry)) (now (s .entry)) (item.Start f)) ⌝ }
 {
     if p.started {
-        return idle(p, true);
+        return unread(p, true);
     }
     let given = naming::start(p.state, t, f);
     let answer = given.answer;
@@ -57,18 +57,18 @@ pub(crate) fn start(
 
 // A request, with a writable part of four bytes.
 pub(crate) fn request(
-    p: Player,
+    p: Session,
     t: &mut [u64],
     s: &[u8],
     g: Guest,
     out: &mut [u8],
     at: usize,
-) -> Turned
+) -> StepResult
     requires { ⌜ Fits (now s) × (at + recordRoom ≤ length (now out)) ⌝ }
-    ensures { λ r. ⌜ Tells r (now (t .exit)) (now (out .entry)) (now (out .exit)) at (turnOf p (now (t .entry)) (now (s .entry)) (item.Request g)) ⌝ }
+    ensures { λ r. ⌜ Matches r (now (t .exit)) (now (out .entry)) (now (out .exit)) at (stepOf p (now (t .entry)) (now (s .entry)) (item.Request g)) ⌝ }
 {
     if !p.started {
-        return idle(p, true);
+        return unread(p, true);
     }
     let n = journal_records::size_of(s);
     let mut writable: [u8; STATUS_SIZE] = [0; STATUS_SIZE];
@@ -79,12 +79,12 @@ pub(crate) fn request(
 }
 
 // An access.
-pub(crate) fn access(p: Player, t: &[u64], s: &[u8], a: Access, out: &mut [u8], at: usize) -> Turned
+pub(crate) fn access(p: Session, t: &[u64], s: &[u8], a: Access, out: &mut [u8], at: usize) -> StepResult
     requires { ⌜ at + recordRoom ≤ length (now out) ⌝ }
-    ensures { λ r. ⌜ Tells r (now (t .entry)) (now (out .entry)) (now (out .exit)) at (turnOf p (now (t .entry)) (now (s .entry)) (item.AccessBy a)) ⌝ }
+    ensures { λ r. ⌜ Matches r (now (t .entry)) (now (out .entry)) (now (out .exit)) at (stepOf p (now (t .entry)) (now (s .entry)) (item.AccessBy a)) ⌝ }
 {
     if !p.started {
-        return idle(p, true);
+        return unread(p, true);
     }
     let given = call_access::access(p.state, t, a);
     let answer = given.answer;
@@ -94,18 +94,18 @@ pub(crate) fn access(p: Player, t: &[u64], s: &[u8], a: Access, out: &mut [u8], 
 
 // A reset.
 pub(crate) fn reset(
-    p: Player,
+    p: Session,
     t: &mut [u64],
     s: &[u8],
     g: Guest,
     out: &mut [u8],
     at: usize,
-) -> Turned
+) -> StepResult
     requires { ⌜ at + recordRoom ≤ length (now out) ⌝ }
-    ensures { λ r. ⌜ Tells r (now (t .exit)) (now (out .entry)) (now (out .exit)) at (turnOf p (now (t .entry)) (now (s .entry)) (item.Reset g)) ⌝ }
+    ensures { λ r. ⌜ Matches r (now (t .exit)) (now (out .entry)) (now (out .exit)) at (stepOf p (now (t .entry)) (now (s .entry)) (item.Reset g)) ⌝ }
 {
     if !p.started {
-        return idle(p, true);
+        return unread(p, true);
     }
     let given = call_reset::reset(p.state, t, g);
     let answer = given.answer;
@@ -125,9 +125,9 @@ fn fetch_into(
     buffer: &mut [u8],
     out: &mut [u8],
     at: usize,
-) -> Turned
+) -> StepResult
     requires { ⌜ (length (now buffer) ≤ faultSize * maxFaults) × (at + recordRoom ≤ length (now out)) ⌝ }
-    ensures { λ r. ⌜ Tells r (now (t .entry)) (now (out .entry)) (now (out .exit)) at (fetchedTurn (now (s .entry)) (rules.step (device state (now (t .entry))) (rules.of-guest g (rules.fetch (now (buffer .entry)))))) ⌝ }
+    ensures { λ r. ⌜ Matches r (now (t .entry)) (now (out .entry)) (now (out .exit)) at (fetchedStep (now (s .entry)) (rules.step (device state (now (t .entry))) (rules.of-guest g (rules.fetch (now (buffer .entry)))))) ⌝ }
 {
     let given = call_fetch::fetch(state, t, g, buffer);
     let answer = given.answer;
@@ -137,19 +137,19 @@ fn fetch_into(
 
 // A fetch of at most n records, into a buffer that holds them.
 pub(crate) fn fetch(
-    p: Player,
+    p: Session,
     t: &[u64],
     s: &[u8],
     g: Guest,
     n: usize,
     out: &mut [u8],
     at: usize,
-) -> Turned
+) -> StepResult
     requires { ⌜ (n ≤ maxFaults) × (at + recordRoom ≤ length (now out)) ⌝ }
-    ensures { λ r. ⌜ Tells r (now (t .entry)) (now (out .entry)) (now (out .exit)) at (turnOf p (now (t .entry)) (now (s .entry)) (item.Fetch g n)) ⌝ }
+    ensures { λ r. ⌜ Matches r (now (t .entry)) (now (out .entry)) (now (out .exit)) at (stepOf p (now (t .entry)) (now (s .entry)) (item.Fetch g n)) ⌝ }
 {
     if !p.started {
-        return idle(p, true);
+        return unread(p, true);
     }
     let mut buffer: [u8; FETCH_BUFFER] = [0; FETCH_BUFFER];
     let m = FAULT_SIZE * n;

@@ -8,7 +8,7 @@ use lib.Dec.{eqb}
 use lib.ListN.{length, getD, drop, drop-of-length-le}
 use Rattle.laws.specs.Lists.{any?, pickBy}
 use Rattle.laws.proofs.Tests.{or-right}
-use Rattle.laws.proofs.Turns.{drop-next}
+use Rattle.laws.proofs.Rounds.{drop-next}
 
 -- whether one of owner g's elements passes the test, with what is to go at place j
 module _ {A : Type 0} (q : A → Bool) (z : A) (g : ℕ) (os : List ℕ) (l : List A) (j : ℕ) where

@@ -38,13 +38,13 @@ use Rattle.rules.specs.Device.{fetch, of-guest, access-by, Reply, jobRule, rule
 use Rattle.rules.specs.Device as rules
 use Rattle.rules.proofs.Worlds.{caller-below}
 use Rattle.rules.proofs.Reading.{sound-good, sound-whole, sound-listed, log-read}
-use Rattle.rules.specs.State.{Shaped}
+use Rattle.rules.specs.State.{Lengths}
 use Rattle.rules.proofs.Refusals.{sound-step}
 use Rattle.rules.proofs.Unchanged.{kept-is, written, still}
 use Rattle.state_log.specs.Changes.{faultLogged}
 use Rattle.state_log.specs.Dropped.{faultsDropped}
 use Rattle.state_endpoints.specs.Search.{indexOf}
-use Rattle.refinement.specs.Flat.{device, placeOfEndpoint, isAttached, liveRecords, answerOf, decisionAt, decision, afterAccess, fetchCount, fetchBytes, ownerAt}
+use Rattle.refinement.specs.Flat.{device, endpointIndex, isAttached, liveRecords, answerOf, decisionAt, decision, afterAccess, fetchCount, fetchBytes, ownerAt}
 use Rattle.refinement.proofs.Places.{owner-at}
 use Rattle.refinement.proofs.Leaving.{attachment-here, flag-here, number-here, of-key-mine}
 use Rattle.refinement.proofs.Requested.{small-domain, fault-written, fetch-written}
@@ -54,7 +54,7 @@ permits-key : (key : ℕ) (a : Access) (r : Mapping) → permits key a r ≡ tru
 unfolding permits
 permits-key key a r h = both-left (ofKey key r) _ h
 
-module _ (d : Device) (h : sound d ≡ true) (k : Shaped (d .state)) where
+module _ (d : Device) (h : sound d ≡ true) (k : Lengths (d .state)) where
   c : Config
   c = configOf (d .state)
 
@@ -62,15 +62,15 @@ module _ (d : Device) (h : sound d ≡ true) (k : Shaped (d .state)) where
   listed-is = sym (sound-listed d h)
 
   -- the owner of an endpoint, by its place in the arrays
-  owner-here : (e : Endpoint) → ownerOf e (configOf (d .state) .endpoints) (configOf (d .state) .owners) ≡ cond (ltb (placeOfEndpoint (d .state) e) (d .state .listed)) (some (guest (getD (d .state .owners) (placeOfEndpoint (d .state) e) 0))) none
+  owner-here : (e : Endpoint) → ownerOf e (configOf (d .state) .endpoints) (configOf (d .state) .owners) ≡ cond (ltb (endpointIndex (d .state) e) (d .state .listed)) (some (guest (getD (d .state .owners) (endpointIndex (d .state) e) 0))) none
   unfolding configOf
   owner-here e =
       owner-at e (configOf (d .state) .endpoints) (configOf (d .state) .owners) (sym (sound-good d h .sizes))
-      ∙ ap (λ n. cond (ltb (placeOfEndpoint (d .state) e) n) (some (guest (getD (configOf (d .state) .owners) (placeOfEndpoint (d .state) e) 0))) none) (sym listed-is)
-      ∙ go (ltb (placeOfEndpoint (d .state) e) (d .state .listed)) refl
+      ∙ ap (λ n. cond (ltb (endpointIndex (d .state) e) n) (some (guest (getD (configOf (d .state) .owners) (endpointIndex (d .state) e) 0))) none) (sym listed-is)
+      ∙ go (ltb (endpointIndex (d .state) e) (d .state .listed)) refl
     where
-      go : (b : Bool) → ltb (placeOfEndpoint (d .state) e) (d .state .listed) ≡ b → cond b (some (guest (getD (configOf (d .state) .owners) (placeOfEndpoint (d .state) e) 0))) none ≡ cond b (some (guest (getD (d .state .owners) (placeOfEndpoint (d .state) e) 0))) none
-      go true x = ap (λ n. some (guest n)) (getD-take (d .state .listed) (d .state .owners) (placeOfEndpoint (d .state) e) 0 (ltb-true _ _ x))
+      go : (b : Bool) → ltb (endpointIndex (d .state) e) (d .state .listed) ≡ b → cond b (some (guest (getD (configOf (d .state) .owners) (endpointIndex (d .state) e) 0))) none ≡ cond b (some (guest (getD (d .state .owners) (endpointIndex (d .state) e) 0))) none
+      go true x = ap (λ n. some (guest n)) (getD-take (d .state .listed) (d .state .owners) (endpointIndex (d .state) e) 0 (ltb-true _ _ x))
       go false x = refl
 
   module _ (x : Access) (g : Guest) (owner : ownerOf (x .endpoint) (configOf (d .state) .endpoints) (configOf (d .state) .owners) ≡ some g) where
@@ -87,20 +87,20 @@ module _ (d : Device) (h : sound d ≡ true) (k : Shaped (d .state)) where
         find-keep (λ r. eqb (guestOf r) (g .0)) (permits (keyOf g dom) x) (liveRecords d) (λ r p. eq-eqb (guestOf r) (g .0) (of-key-mine g dom r (small-domain (configOf (d .state)) (kept-is d h k) (read d) (sound-whole d h) g m (x .endpoint) dom a) (permits-key (keyOf g dom) x r p)))
 
     -- what the arrays say at the endpoint's place
-    place-is : placeOfEndpoint (d .state) (x .endpoint) ≡ indexOf (x .endpoint .0) (configOf (d .state) .endpoints)
+    place-is : endpointIndex (d .state) (x .endpoint) ≡ indexOf (x .endpoint .0) (configOf (d .state) .endpoints)
     place-is = unfold configOf in refl
 
     attachment-is : attachmentOf (x .endpoint) (own (configOf (d .state)) g .endpoints) (part (configOf (d .state)) g (read d) .attachments) ≡ getD (read d .attachments) (indexOf (x .endpoint .0) (configOf (d .state) .endpoints)) none
     attachment-is = attachment-here (configOf (d .state)) (kept-is d h k) (read d) (sound-whole d h) g m (x .endpoint) owner
 
-    flag-is : isAttached (d .state) (placeOfEndpoint (d .state) (x .endpoint)) ≡ eqb (flagOf (attachmentOf (x .endpoint) (own (configOf (d .state)) g .endpoints) (part (configOf (d .state)) g (read d) .attachments))) 1
+    flag-is : isAttached (d .state) (endpointIndex (d .state) (x .endpoint)) ≡ eqb (flagOf (attachmentOf (x .endpoint) (own (configOf (d .state)) g .endpoints) (part (configOf (d .state)) g (read d) .attachments))) 1
     flag-is =
         ap (λ n. isAttached (d .state) n) place-is
         ∙ ap (λ (v : Device). isAttached (v .state) (indexOf (x .endpoint .0) (configOf (d .state) .endpoints))) (written d h k)
         ∙ flag-here (configOf (d .state)) (kept-is d h k) (read d) (sound-whole d h) g m (x .endpoint) owner
         ∙ ap (λ (a : Attachment). eqb (flagOf a) 1) (sym attachment-is)
 
-    number-is : getD (d .state .domains) (placeOfEndpoint (d .state) (x .endpoint)) 0 ≡ numberOf (attachmentOf (x .endpoint) (own (configOf (d .state)) g .endpoints) (part (configOf (d .state)) g (read d) .attachments))
+    number-is : getD (d .state .domains) (endpointIndex (d .state) (x .endpoint)) 0 ≡ numberOf (attachmentOf (x .endpoint) (own (configOf (d .state)) g .endpoints) (part (configOf (d .state)) g (read d) .attachments))
     number-is =
         ap (λ n. getD (d .state .domains) n 0) place-is
         ∙ ap (λ (v : Device). getD (v .state .domains) (indexOf (x .endpoint .0) (configOf (d .state) .endpoints)) 0) (written d h k)
@@ -108,8 +108,8 @@ module _ (d : Device) (h : sound d ≡ true) (k : Shaped (d .state)) where
         ∙ ap numberOf (sym attachment-is)
 
     -- a fault logged for the owner
-    logged-here : (why : Cause) → getD (d .state .owners) (placeOfEndpoint (d .state) (x .endpoint)) 0 ≡ g .0
-        → device (faultLogged (d .state) (ownerAt (d .state) (placeOfEndpoint (d .state) (x .endpoint))) (faultOf why x)) (d .table)
+    logged-here : (why : Cause) → getD (d .state .owners) (endpointIndex (d .state) (x .endpoint)) 0 ≡ g .0
+        → device (faultLogged (d .state) (ownerAt (d .state) (endpointIndex (d .state) (x .endpoint))) (faultOf why x)) (d .table)
         ≡ write (configOf (d .state)) (replace (configOf (d .state)) g (withLog (logged (faultOf why x) (part (configOf (d .state)) g (read d) .log)) (part (configOf (d .state)) g (read d))) (read d))
     logged-here why o =
         ap (λ n. device (faultLogged (d .state) (guest n) (faultOf why x)) (d .table)) o
@@ -127,16 +127,16 @@ module _ (d : Device) (h : sound d ≡ true) (k : Shaped (d .state)) where
     abbrev ruled : Answer × Part → Reply × Device
     ruled r = (record { answer = r .0; buffer = [] }, write (configOf (d .state)) (replace (configOf (d .state)) g (r .1) (read d)))
 
-    looked : getD (d .state .owners) (placeOfEndpoint (d .state) (x .endpoint)) 0 ≡ g .0 → (o : Option Mapping) → flat (answerOf x o) ≡ ruled (A.translated x (part (configOf (d .state)) g (read d)) o)
+    looked : getD (d .state .owners) (endpointIndex (d .state) (x .endpoint)) 0 ≡ g .0 → (o : Option Mapping) → flat (answerOf x o) ≡ ruled (A.translated x (part (configOf (d .state)) g (read d)) o)
     unfolding afterAccess answerOf A.translated A.blocked
     looked w none = ap (λ (v : Device). (record { answer = Blocked Unmapped; buffer = [] }, v)) (logged-here Unmapped w)
     looked w (some r) = ap (λ (v : Device). (record { answer = Through (x .address - r .start + r .phys); buffer = [] }, v)) same-here
 
-    unattached : ltb (placeOfEndpoint (d .state) (x .endpoint)) (d .state .listed) ≡ true → eqb (getD (d .state .attached) (placeOfEndpoint (d .state) (x .endpoint)) 0) 1 ≡ false → decision d x ≡ Blocked Unattached
+    unattached : ltb (endpointIndex (d .state) (x .endpoint)) (d .state .listed) ≡ true → eqb (getD (d .state .attached) (endpointIndex (d .state) (x .endpoint)) 0) 1 ≡ false → decision d x ≡ Blocked Unattached
     unfolding decisionAt
     unattached l off = rw (l, off)
 
-    by-lookup : (dom : Domain) → ltb (placeOfEndpoint (d .state) (x .endpoint)) (d .state .listed) ≡ true → eqb (getD (d .state .attached) (placeOfEndpoint (d .state) (x .endpoint)) 0) 1 ≡ true → getD (d .state .owners) (placeOfEndpoint (d .state) (x .endpoint)) 0 ≡ g .0 → getD (d .state .domains) (placeOfEndpoint (d .state) (x .endpoint)) 0 ≡ dom .0
+    by-lookup : (dom : Domain) → ltb (endpointIndex (d .state) (x .endpoint)) (d .state .listed) ≡ true → eqb (getD (d .state .attached) (endpointIndex (d .state) (x .endpoint)) 0) 1 ≡ true → getD (d .state .owners) (endpointIndex (d .state) (x .endpoint)) 0 ≡ g .0 → getD (d .state .domains) (endpointIndex (d .state) (x .endpoint)) 0 ≡ dom .0
         → decision d x ≡ answerOf x (findMapping (keyOf g dom) x (liveRecords d))
     unfolding decisionAt
     by-lookup dom l on w number = rw (l, on, w, number)
@@ -145,29 +145,29 @@ module _ (d : Device) (h : sound d ≡ true) (k : Shaped (d .state)) where
     abbrev ruledBy : Attachment → Reply × Device
     ruledBy a = ruled (A.decided (own (configOf (d .state)) g) (part (configOf (d .state)) g (read d)) x a)
 
-    flat-unattached : getD (d .state .owners) (placeOfEndpoint (d .state) (x .endpoint)) 0 ≡ g .0 → flat (Blocked Unattached) ≡ ruledBy none
+    flat-unattached : getD (d .state .owners) (endpointIndex (d .state) (x .endpoint)) 0 ≡ g .0 → flat (Blocked Unattached) ≡ ruledBy none
     unfolding afterAccess A.decided A.blocked
     flat-unattached w = ap (λ (v : Device). (record { answer = Blocked Unattached; buffer = [] }, v)) (logged-here Unattached w)
 
-    flat-found : (dom : Domain) → getD (d .state .owners) (placeOfEndpoint (d .state) (x .endpoint)) 0 ≡ g .0 → flat (answerOf x (findMapping (keyOf (own (configOf (d .state)) g .guest) dom) x (part (configOf (d .state)) g (read d) .records))) ≡ ruledBy (some dom)
+    flat-found : (dom : Domain) → getD (d .state .owners) (endpointIndex (d .state) (x .endpoint)) 0 ≡ g .0 → flat (answerOf x (findMapping (keyOf (own (configOf (d .state)) g .guest) dom) x (part (configOf (d .state)) g (read d) .records))) ≡ ruledBy (some dom)
     unfolding A.decided
     flat-found dom w = looked w (findMapping (keyOf (own (configOf (d .state)) g .guest) dom) x (part (configOf (d .state)) g (read d) .records))
 
-    decided-by : ltb (placeOfEndpoint (d .state) (x .endpoint)) (d .state .listed) ≡ true → getD (d .state .owners) (placeOfEndpoint (d .state) (x .endpoint)) 0 ≡ g .0 → (a : Attachment) → attachmentOf (x .endpoint) (own (configOf (d .state)) g .endpoints) (part (configOf (d .state)) g (read d) .attachments) ≡ a → flat (decision d x) ≡ ruledBy a
+    decided-by : ltb (endpointIndex (d .state) (x .endpoint)) (d .state .listed) ≡ true → getD (d .state .owners) (endpointIndex (d .state) (x .endpoint)) 0 ≡ g .0 → (a : Attachment) → attachmentOf (x .endpoint) (own (configOf (d .state)) g .endpoints) (part (configOf (d .state)) g (read d) .attachments) ≡ a → flat (decision d x) ≡ ruledBy a
     decided-by l w none a = ap (λ (y : Answer). flat y) (unattached l (flag-is ∙ ap (λ (y : Attachment). eqb (flagOf y) 1) a)) ∙ flat-unattached w
     decided-by l w (some dom) a =
         ap (λ (y : Answer). flat y) (by-lookup dom l (flag-is ∙ ap (λ (y : Attachment). eqb (flagOf y) 1) a) w (number-is ∙ ap numberOf a) ∙ ap (λ (o : Option Mapping). answerOf x o) (sym (found-here dom a)))
         ∙ flat-found dom w
 
-    decided-here : ltb (placeOfEndpoint (d .state) (x .endpoint)) (d .state .listed) ≡ true → getD (d .state .owners) (placeOfEndpoint (d .state) (x .endpoint)) 0 ≡ g .0
+    decided-here : ltb (endpointIndex (d .state) (x .endpoint)) (d .state .listed) ≡ true → getD (d .state .owners) (endpointIndex (d .state) (x .endpoint)) 0 ≡ g .0
         → flat (decision d x) ≡ ruledBy (attachmentOf (x .endpoint) (own (configOf (d .state)) g .endpoints) (part (configOf (d .state)) g (read d) .attachments))
     decided-here l w = decided-by l w (attachmentOf (x .endpoint) (own (configOf (d .state)) g .endpoints) (part (configOf (d .state)) g (read d) .attachments)) refl
 
-  unlisted : (x : Access) → ltb (placeOfEndpoint (d .state) (x .endpoint)) (d .state .listed) ≡ false → decision d x ≡ Refused UnknownEndpoint
+  unlisted : (x : Access) → ltb (endpointIndex (d .state) (x .endpoint)) (d .state .listed) ≡ false → decision d x ≡ Refused UnknownEndpoint
   unfolding decisionAt
   unlisted x l = rw l
 
-  listed-step : (x : Access) (g : Guest) → ownerOf (x .endpoint) (configOf (d .state) .endpoints) (configOf (d .state) .owners) ≡ some g → ltb (placeOfEndpoint (d .state) (x .endpoint)) (d .state .listed) ≡ true → getD (d .state .owners) (placeOfEndpoint (d .state) (x .endpoint)) 0 ≡ g .0
+  listed-step : (x : Access) (g : Guest) → ownerOf (x .endpoint) (configOf (d .state) .endpoints) (configOf (d .state) .owners) ≡ some g → ltb (endpointIndex (d .state) (x .endpoint)) (d .state .listed) ≡ true → getD (d .state .owners) (endpointIndex (d .state) (x .endpoint)) 0 ≡ g .0
       → rules.performed d (some g) (access-by x) ≡ (record { answer = decision d x; buffer = [] }, device (afterAccess (d .state) x (decision d x)) (d .table))
   unfolding rules.performed work rule A.access
   listed-step x g owner l w = sym (decided-here x g owner l w)
@@ -177,13 +177,13 @@ module _ (d : Device) (h : sound d ≡ true) (k : Shaped (d .state)) where
   unlisted-step x = refl
 
   by-owner : (x : Access) → rules.performed d (ownerOf (x .endpoint) (configOf (d .state) .endpoints) (configOf (d .state) .owners)) (access-by x) ≡ (record { answer = decision d x; buffer = [] }, device (afterAccess (d .state) x (decision d x)) (d .table))
-  by-owner x = go (ltb (placeOfEndpoint (d .state) (x .endpoint)) (d .state .listed)) refl
+  by-owner x = go (ltb (endpointIndex (d .state) (x .endpoint)) (d .state .listed)) refl
     where
-      go : (b : Bool) → ltb (placeOfEndpoint (d .state) (x .endpoint)) (d .state .listed) ≡ b
+      go : (b : Bool) → ltb (endpointIndex (d .state) (x .endpoint)) (d .state .listed) ≡ b
           → rules.performed d (ownerOf (x .endpoint) (configOf (d .state) .endpoints) (configOf (d .state) .owners)) (access-by x) ≡ (record { answer = decision d x; buffer = [] }, device (afterAccess (d .state) x (decision d x)) (d .table))
       go true l =
-          let owner : ownerOf (x .endpoint) (configOf (d .state) .endpoints) (configOf (d .state) .owners) ≡ some (guest (getD (d .state .owners) (placeOfEndpoint (d .state) (x .endpoint)) 0)) = owner-here (x .endpoint) ∙ rw l in
-          rw owner (listed-step x (guest (getD (d .state .owners) (placeOfEndpoint (d .state) (x .endpoint)) 0)) owner l refl)
+          let owner : ownerOf (x .endpoint) (configOf (d .state) .endpoints) (configOf (d .state) .owners) ≡ some (guest (getD (d .state .owners) (endpointIndex (d .state) (x .endpoint)) 0)) = owner-here (x .endpoint) ∙ rw l in
+          rw owner (listed-step x (guest (getD (d .state .owners) (endpointIndex (d .state) (x .endpoint)) 0)) owner l refl)
       go false l =
           let owner : ownerOf (x .endpoint) (configOf (d .state) .endpoints) (configOf (d .state) .owners) ≡ none = owner-here (x .endpoint) ∙ rw l in
           rw (owner, unlisted x l) (unlisted-step x)

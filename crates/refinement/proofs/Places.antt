@@ -94,14 +94,14 @@ listed-owned e g (k ∷ es) (o ∷ os) m p = go (eqb k (e .0)) refl (eqb o (g .0
         mid true i = rw (sym (eqb-true k (e .0) x), not-true (eqb k n) (both-left (not (eqb k n)) _ h)) (rw (eqb-true k (e .0) x) i)
         mid false i = i
 
-    turn : eqb (e .0) k ≡ eqb k (e .0)
-    turn = same-test (eqb (e .0) k) (eqb k (e .0)) (λ h. eq-eqb k (e .0) (sym (eqb-true (e .0) k h))) (λ h. eq-eqb (e .0) k (sym (eqb-true k (e .0) h)))
+    stepRecord : eqb (e .0) k ≡ eqb k (e .0)
+    stepRecord = same-test (eqb (e .0) k) (eqb k (e .0)) (λ h. eq-eqb k (e .0) (sym (eqb-true (e .0) k h))) (λ h. eq-eqb (e .0) k (sym (eqb-true k (e .0) h)))
 
     go : (b : Bool) → eqb k (e .0) ≡ b → (c : Bool) → eqb o (g .0) ≡ c → any? (eqb (e .0)) (pickBy (g .0) os es) ≡ is g (ownerOf e es os)
         → any? (eqb (e .0)) (cond c (k ∷ pickBy (g .0) os es) (pickBy (g .0) os es)) ≡ is g (cond b (some (guest o)) (ownerOf e es os))
-    go true x true y i = rw (turn, x, y)
+    go true x true y i = rw (stepRecord, x, y)
     go true x false y i = rw y (absent es os (both-left (all? (λ b. not (eqb k b)) es) _ p) x)
-    go false x true y i = rw (turn, x) i
+    go false x true y i = rw (stepRecord, x) i
     go false x false y i = i
 
 -- every endpoint of g detached

@@ -43,7 +43,7 @@ use Rattle.state_log.specs.Changes.{faultLogged}
 use Rattle.state_log.specs.Dropped.{faultsDropped}
 use Rattle.state_reset.specs.Changes.{guestCleared}
 use Rattle.state_endpoints.specs.Search.{indexOf}
-use Rattle.refinement.specs.Flat.{device, worked, placeOfEndpoint, ownedAt, isAttached, existsFlat, liveRecords, removed, inserted, left, entered, moved, settled, attachStatus, attachFlat, detachStatus, detachFlat, mapStatus, mapFlat, unmapStatus, unmapFlat, resetFlat}
+use Rattle.refinement.specs.Flat.{device, withStatus, endpointIndex, ownedAt, isAttached, existsFlat, liveRecords, removed, inserted, left, entered, moved, settled, attachStatus, attachFlat, detachStatus, detachFlat, mapStatus, mapFlat, unmapStatus, unmapFlat, resetFlat}
 use Rattle.rules.proofs.PutBack.{with-kept, with-inserted, any-of}
 use Rattle.rules.proofs.Unchanged.{attachments-same, records-same, replace-same}
 use Rattle.refinement.proofs.Places.{owner-at, listed-owned}
@@ -77,14 +77,14 @@ module _ (c : Config) (k : kept c ≡ c) (w : World) (h : Whole c w) (g : Guest)
   unfolding write
   config-is = config-back c w good-c ∙ k
 
-  pub place-is : (e : Endpoint) → placeOfEndpoint (write c w .state) e ≡ indexOf (e .0) (c .endpoints)
+  pub place-is : (e : Endpoint) → endpointIndex (write c w .state) e ≡ indexOf (e .0) (c .endpoints)
   unfolding write configOf kept
   place-is e = ap (λ (x : Config). indexOf (e .0) (x .endpoints)) (config-back c w good-c)
 
   distinct : pairwise (λ a b. not (eqb a b)) (c .endpoints) ≡ true
   distinct = good-c .distinct
 
-  owned-is : (e : Endpoint) → ownedAt (write c w .state) g (placeOfEndpoint (write c w .state) e) ≡ listed e (own c g .endpoints)
+  owned-is : (e : Endpoint) → ownedAt (write c w .state) g (endpointIndex (write c w .state) e) ≡ listed e (own c g .endpoints)
   owned-is e =
       rw (place-is e)
       (sym (unfold own in (listed-owned e g (c .endpoints) (c .owners) (sym (good-c .sizes)) distinct ∙ ap (λ (x : Option Guest). is g x) (owner-at e (c .endpoints) (c .owners) (sym (good-c .sizes)))) ∙ go (ltb (indexOf (e .0) (c .endpoints)) (length (c .endpoints))) refl))
@@ -131,30 +131,30 @@ module _ (c : Config) (k : kept c ≡ c) (w : World) (h : Whole c w) (g : Guest)
       go none x = unfold isIn moveFrom in entered-written c k w h g m e owner dom
       go (some was) x = unfold isIn moveFrom in other was x (eqb (was .0) (dom .0))
 
-  attach-status : (dom : Domain) (e : Endpoint) (z : ℕ) → attachStatus (write c w .state) g dom (placeOfEndpoint (write c w .state) e) z ≡ statusOf (attachSteps (own c g) dom e z)
+  attach-status : (dom : Domain) (e : Endpoint) (z : ℕ) → attachStatus (write c w .state) g dom (endpointIndex (write c w .state) e) z ≡ statusOf (attachSteps (own c g) dom e z)
   unfolding attachStatus
   attach-status dom e z =
       ap (λ b. statusOf (attachChain (not (eqb z 0)) (not b) (outside (write c w .state .settings .domains .start) (write c w .state .settings .domains .end) (dom .0)))) (owned-is e)
       ∙ ap (λ (s : Settings). statusOf (attachChain (not (eqb z 0)) (not (listed e (own c g .endpoints))) (outside (s .domains .start) (s .domains .end) (dom .0)))) settings-is
       ∙ unfold own in refl
 
-  pub attach-written : (dom : Domain) (e : Endpoint) (z : ℕ) → attachFlat (write c w) g dom e z ≡ worked (handleAttach (own c g) (part c g w) dom e z .0) (write c (replace c g (handleAttach (own c g) (part c g w) dom e z .1) w))
+  pub attach-written : (dom : Domain) (e : Endpoint) (z : ℕ) → attachFlat (write c w) g dom e z ≡ withStatus (handleAttach (own c g) (part c g w) dom e z .0) (write c (replace c g (handleAttach (own c g) (part c g w) dom e z .1) w))
   unfolding attachFlat handleAttach
   attach-written dom e z =
-      ap (λ n. settled n (write c w) (moved (write c w) g (placeOfEndpoint (write c w .state) e) dom)) (attach-status dom e z)
-      ∙ settled-written c w g (attachSteps (own c g) dom e z) (write c w) (moved (write c w) g (placeOfEndpoint (write c w .state) e) dom) (part c g w) (attached (own c g) e dom (part c g w)) refl same-world
+      ap (λ n. settled n (write c w) (moved (write c w) g (endpointIndex (write c w .state) e) dom)) (attach-status dom e z)
+      ∙ settled-written c w g (attachSteps (own c g) dom e z) (write c w) (moved (write c w) g (endpointIndex (write c w .state) e) dom) (part c g w) (attached (own c g) e dom (part c g w)) refl same-world
       (λ y. ap (λ n. moved (write c w) g n dom) (place-is e) ∙ moved-written e dom (owner-of e (attaches (own c g) dom e z y .owned)))
 
   -- DETACH
 
-  detach-status : (dom : Domain) (e : Endpoint) (z : ℕ) → detachStatus (write c w .state) g dom (placeOfEndpoint (write c w .state) e) z ≡ statusOf (detachSteps (own c g) (part c g w) dom e z)
+  detach-status : (dom : Domain) (e : Endpoint) (z : ℕ) → detachStatus (write c w .state) g dom (endpointIndex (write c w .state) e) z ≡ statusOf (detachSteps (own c g) (part c g w) dom e z)
   unfolding detachStatus
   detach-status dom e z =
       ap (λ b. statusOf (detachChain (not (eqb z 0)) (not b) (not there))) (owned-is e)
       ∙ go (listed e (own c g .endpoints)) refl
     where
       there : Bool
-      there = isAttached (write c w .state) (placeOfEndpoint (write c w .state) e) && eqb (getD (write c w .state .domains) (placeOfEndpoint (write c w .state) e) 0) (dom .0)
+      there = isAttached (write c w .state) (endpointIndex (write c w .state) e) && eqb (getD (write c w .state .domains) (endpointIndex (write c w .state) e) 0) (dom .0)
 
       go : (b : Bool) → listed e (own c g .endpoints) ≡ b → statusOf (detachChain (not (eqb z 0)) (not b) (not there)) ≡ statusOf (detachChain (not (eqb z 0)) (not b) (not (isIn dom (attachmentOf e (own c g .endpoints) (part c g w .attachments)))))
       go true x =
@@ -162,11 +162,11 @@ module _ (c : Config) (k : kept c ≡ c) (w : World) (h : Whole c w) (g : Guest)
           (ap (λ n. isAttached (write c w .state) n && eqb (getD (write c w .state .domains) n 0) (dom .0)) (place-is e) ∙ in-domain c k w h g m e (owner-of e x) dom)
       go false x = refl
 
-  pub detach-written : (dom : Domain) (e : Endpoint) (z : ℕ) → detachFlat (write c w) g dom e z ≡ worked (handleDetach (own c g) (part c g w) dom e z .0) (write c (replace c g (handleDetach (own c g) (part c g w) dom e z .1) w))
+  pub detach-written : (dom : Domain) (e : Endpoint) (z : ℕ) → detachFlat (write c w) g dom e z ≡ withStatus (handleDetach (own c g) (part c g w) dom e z .0) (write c (replace c g (handleDetach (own c g) (part c g w) dom e z .1) w))
   unfolding detachFlat handleDetach
   detach-written dom e z =
-      ap (λ n. settled n (write c w) (left (write c w) g (placeOfEndpoint (write c w .state) e) dom)) (detach-status dom e z)
-      ∙ settled-written c w g (detachSteps (own c g) (part c g w) dom e z) (write c w) (left (write c w) g (placeOfEndpoint (write c w .state) e) dom) (part c g w) (leave (own c g) e dom (part c g w)) refl same-world
+      ap (λ n. settled n (write c w) (left (write c w) g (endpointIndex (write c w .state) e) dom)) (detach-status dom e z)
+      ∙ settled-written c w g (detachSteps (own c g) (part c g w) dom e z) (write c w) (left (write c w) g (endpointIndex (write c w .state) e) dom) (part c g w) (leave (own c g) e dom (part c g w)) refl same-world
       (λ y.
       let s = detaches (own c g) (part c g w) dom e z y in
       ap (λ n. left (write c w) g n dom) (place-is e) ∙ left-written c k w h g m e (owner-of e (s .owned)) dom (in-here e dom (s .here)))
@@ -225,7 +225,7 @@ module _ (c : Config) (k : kept c ≡ c) (w : World) (h : Whole c w) (g : Guest)
       (subst (λ (x : Config). g .0 < x .settings .guests) (sym config-is) m)
       (subst (λ (x : Config). length (part x g (read (write c w)) .records) < share (x .settings) (g .0)) (sym config-is) (rw (read-write c w h) (unfold own in l))))
 
-  pub map-written : (dom : Domain) (r : Mapping) → r .key ≡ keyOf g dom → mapFlat (write c w) g dom r ≡ worked (handleMap (own c g) (part c g w) dom r .0) (write c (replace c g (handleMap (own c g) (part c g w) dom r .1) w))
+  pub map-written : (dom : Domain) (r : Mapping) → r .key ≡ keyOf g dom → mapFlat (write c w) g dom r ≡ withStatus (handleMap (own c g) (part c g w) dom r .0) (write c (replace c g (handleMap (own c g) (part c g w) dom r .1) w))
   unfolding mapFlat handleMap
   map-written dom r e =
       ap (λ n. settled n (write c w) (inserted (write c w) r)) (map-status dom r e)
@@ -276,7 +276,7 @@ module _ (c : Config) (k : kept c ≡ c) (w : World) (h : Whole c w) (g : Guest)
           or-true true = refl
           or-true false = refl
 
-  pub unmap-written : (dom : Domain) (a b z : ℕ) → unmapFlat (write c w) g dom a b z ≡ worked (handleUnmap (own c g) (part c g w) dom a b z .0) (write c (replace c g (handleUnmap (own c g) (part c g w) dom a b z .1) w))
+  pub unmap-written : (dom : Domain) (a b z : ℕ) → unmapFlat (write c w) g dom a b z ≡ withStatus (handleUnmap (own c g) (part c g w) dom a b z .0) (write c (replace c g (handleUnmap (own c g) (part c g w) dom a b z .1) w))
   unfolding unmapFlat handleUnmap
   unmap-written dom a b z =
       ap (λ n. settled n (write c w) (removed (write c w) (keyOf g dom) (keyOf g dom) a b)) (unmap-status dom a b z)

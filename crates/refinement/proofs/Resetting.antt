@@ -8,7 +8,7 @@ use lib.Dec.{ltb}
 use Rattle.rules.specs.declared.Guest.{Guest}
 use Rattle.rules.specs.declared.State.{State}
 use Rattle.rules.specs.declared.Answer.{Answer}
-use Rattle.rules.specs.State.{Device, Shaped, configOf}
+use Rattle.rules.specs.State.{Device, Lengths, configOf}
 use Rattle.rules.specs.Sound.{sound}
 use Rattle.rules.specs.Sizes.{maxGuests}
 use Rattle.rules.specs.Device.{reset, of-guest, step}
@@ -19,7 +19,7 @@ use Rattle.refinement.specs.Flat.{device, resetFlat}
 use Rattle.refinement.specs.Resetting.{isGuest, resetAnswer, logsReset, domainsReset, resetWhole}
 use Rattle.refinement.proofs.Stepped.{reset-step}
 
-pub reset-is-step : (d : Device) → sound d ≡ true → Shaped (d .state) → (g : Guest) → resetWhole (d .state .settings .guests) d g ≡ step d (of-guest g reset)
+pub reset-is-step : (d : Device) → sound d ≡ true → Lengths (d .state) → (g : Guest) → resetWhole (d .state .settings .guests) d g ≡ step d (of-guest g reset)
 unfolding resetAnswer logsReset domainsReset isGuest
 reset-is-step d h k g = go (ltb (g .0) (d .state .settings .guests)) refl
   where
@@ -32,7 +32,7 @@ reset-is-step d h k g = go (ltb (g .0) (d .state .settings .guests)) refl
     go false t = rw (all-have ∙ t) (sym (no-such-guest d (of-guest g reset) (unfold configOf in t)))
 
 -- the same of a reset whose three parts are told
-pub reset-works : (s : State) (ws : List ℕ) (g : Guest) → sound (device s ws) ≡ true → Shaped s → (x : Answer) (t r : State) (vs : List ℕ)
+pub reset-works : (s : State) (ws : List ℕ) (g : Guest) → sound (device s ws) ≡ true → Lengths s → (x : Answer) (t r : State) (vs : List ℕ)
     → x ≡ resetAnswer (s .settings .guests) g → t ≡ logsReset (s .settings .guests) s g → device r vs ≡ domainsReset (s .settings .guests) (device t ws) g
     → (record { answer = x; buffer = [] }, device r vs) ≡ step (device s ws) (of-guest g reset)
 reset-works s ws g h k x t r vs p q e = rw (e, q, p) (reset-is-step (device s ws) h k g)

@@ -109,7 +109,7 @@ start-fields s es os z t a b e f g h =
       unlogged k faultPlaces (λ i l. getD (l .faults) (i % maxFaults) noFault .address) (λ i. i / maxFaults) (λ i. refl),
     )
 
--- SET-UP'S RETURNS
+-- SET-UP'S REstepRecordS
 
 nothing : (a : Bool) → false ≡ (a && false)
 nothing true = refl

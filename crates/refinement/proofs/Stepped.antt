@@ -25,17 +25,17 @@ use Rattle.rules.specs.Device.{request, reset, of-guest, requested, jobRule, ru
 use Rattle.rules.specs.Device as rules
 use Rattle.rules.proofs.Reading.{sound-good, sound-whole}
 use Rattle.rules.proofs.Groups.{sound-facts}
-use Rattle.rules.specs.State.{Shaped}
+use Rattle.rules.specs.State.{Lengths}
 use Rattle.wire_requests.specs.Parsed.{asked, mapFields, unmapFields}
 use Rattle.wire_requests.specs.declared.request.Request.the-variants.{Attach, Detach, Map, Unmap}
 use Rattle.wire_requests.specs.declared.request.Request.the-variants as Q
-use Rattle.refinement.specs.Flat.{Worked, worked, mapPlaced, resetFlat}
+use Rattle.refinement.specs.Flat.{StatusAndDevice, withStatus, mapPlaced, resetFlat}
 use Rattle.refinement.specs.Requesting.{recordOf, handled, refusedFlat, unlessRefused, requestFlat}
 use Rattle.rules.proofs.Refusals.{no-such-guest, sound-step}
 use Rattle.rules.proofs.Unchanged.{replace-same, kept-is, written, still}
 use Rattle.refinement.proofs.Requested.{attach-written, detach-written, map-written, unmap-written, reset-written}
 
-module _ (d : Device) (h : sound d ≡ true) (k : Shaped (d .state)) where
+module _ (d : Device) (h : sound d ≡ true) (k : Lengths (d .state)) where
   abbrev c : Config
   c = configOf (d .state)
 
@@ -57,8 +57,8 @@ module _ (d : Device) (h : sound d ≡ true) (k : Shaped (d .state)) where
     m = unfold configOf in ltb-true (g .0) (d .state .settings .guests) l
 
     -- what a rule gives, put back
-    abbrev back : ℕ × Part → Worked
-    back r = worked (r .0) (write (configOf (d .state)) (replace (configOf (d .state)) g (r .1) (read d)))
+    abbrev back : ℕ × Part → StatusAndDevice
+    back r = withStatus (r .0) (write (configOf (d .state)) (replace (configOf (d .state)) g (r .1) (read d)))
 
     abbrev o : Own
     o = own (configOf (d .state)) g
@@ -88,7 +88,7 @@ module _ (d : Device) (h : sound d ≡ true) (k : Shaped (d .state)) where
         go false true v x = unfold handled in detach-written (configOf (d .state)) (kept-is d h k) (read d) (sound-whole d h) g m (domainField r) (endpointField r) (attachReserved r)
         go false false true x = unfold handled in map-here r
         go false false false true = unfold handled in unmap-written (configOf (d .state)) (kept-is d h k) (read d) (sound-whole d h) g m (domainField r) (virtStart r) (virtEnd r) (unmapReserved r)
-        go false false false false = unfold handled in ap (λ (v : World). worked DEVERR (write (configOf (d .state)) v)) (sym (replace-same (configOf (d .state)) (read d) (sound-whole d h) g))
+        go false false false false = unfold handled in ap (λ (v : World). withStatus DEVERR (write (configOf (d .state)) v)) (sym (replace-same (configOf (d .state)) (read d) (sound-whole d h) g))
 
     -- a request that is refused, and one that is worked
     refused-step : (r b : List ℕ) (a : Refusal) → firstFailing (requestRefusals r (length b)) ≡ some a → step d (of-guest g (request r b)) ≡ (record { answer = Refused a; buffer = b }, d)
@@ -101,7 +101,7 @@ module _ (d : Device) (h : sound d ≡ true) (k : Shaped (d .state)) where
     served-step r b f =
         sound-step d (of-guest g (request r b)) (unfold configOf in l) h
         ∙ unfold caller rules.performed work rule jobRule requested in
-        rw f (ap (λ (x : Worked). (record { answer = Served 4; buffer = x .status ∷ 0 ∷ 0 ∷ 0 ∷ [] }, x .left)) (sym (handle-step r)))
+        rw f (ap (λ (x : StatusAndDevice). (record { answer = Served 4; buffer = x .status ∷ 0 ∷ 0 ∷ 0 ∷ [] }, x .left)) (sym (handle-step r)))
 
   -- a request on sound state and table is the device's step
   pub request-step : (g : Guest) (r b : List ℕ) → requestFlat d g r b ≡ step d (of-guest g (request r b))

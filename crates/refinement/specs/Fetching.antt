@@ -35,5 +35,5 @@ fetchFlat guests s g buffer =
     (unfetched s NoSuchGuest buffer)
 
 -- the same on the device, whose table stays
-abbrev pub fetchedFlat : ℕ → Device → Guest → List ℕ → Reply × Device
-fetchedFlat guests d g buffer = (fetchFlat guests (d .state) g buffer .0, device (fetchFlat guests (d .state) g buffer .1) (d .table))
+abbrev pub fetchedWhole : ℕ → Device → Guest → List ℕ → Reply × Device
+fetchedWhole guests d g buffer = (fetchFlat guests (d .state) g buffer .0, device (fetchFlat guests (d .state) g buffer .1) (d .table))

@@ -37,17 +37,17 @@ abbrev pub device : State → List ℕ → Device
 device s ws = record { state = s; table = ws }
 
 -- a status and the device afterwards
-pub record Worked : Type 0 where
+pub record StatusAndDevice : Type 0 where
   pub status : ℕ
   pub left : Device
 
-abbrev pub worked : ℕ → Device → Worked
-worked st d = record { status = st; left = d }
+abbrev pub withStatus : ℕ → Device → StatusAndDevice
+withStatus st d = record { status = st; left = d }
 
 -- ENDPOINTS
 
-abbrev pub placeOfEndpoint : State → Endpoint → ℕ
-placeOfEndpoint s e = indexOf (e .0) (take (s .listed) (s .endpoints))
+abbrev pub endpointIndex : State → Endpoint → ℕ
+endpointIndex s e = indexOf (e .0) (take (s .listed) (s .endpoints))
 
 -- the endpoint at place i is listed and guest g's
 abbrev pub ownedAt : State → Guest → ℕ → Bool
@@ -98,24 +98,24 @@ moved d g i dom =
     (entered d i dom)
 
 -- the status, with e where it is OK, else with d
-abbrev pub settled : ℕ → Device → Device → Worked
-settled st d e = worked st (cond (eqb st OK) e d)
+abbrev pub settled : ℕ → Device → Device → StatusAndDevice
+settled st d e = withStatus st (cond (eqb st OK) e d)
 
 -- the status of an ATTACH of the endpoint at place i
 unfoldable pub attachStatus : State → Guest → Domain → ℕ → ℕ → ℕ
 attachStatus s g dom i reserved =
     statusOf (attachChain (not (eqb reserved 0)) (not (ownedAt s g i)) (outside (s .settings .domains .start) (s .settings .domains .end) (dom .0)))
 
-unfoldable pub attachFlat : Device → Guest → Domain → Endpoint → ℕ → Worked
-attachFlat d g dom e reserved = settled (attachStatus (d .state) g dom (placeOfEndpoint (d .state) e) reserved) d (moved d g (placeOfEndpoint (d .state) e) dom)
+unfoldable pub attachFlat : Device → Guest → Domain → Endpoint → ℕ → StatusAndDevice
+attachFlat d g dom e reserved = settled (attachStatus (d .state) g dom (endpointIndex (d .state) e) reserved) d (moved d g (endpointIndex (d .state) e) dom)
 
 -- the status of a DETACH of the endpoint at place i
 unfoldable pub detachStatus : State → Guest → Domain → ℕ → ℕ → ℕ
 detachStatus s g dom i reserved =
     statusOf (detachChain (not (eqb reserved 0)) (not (ownedAt s g i)) (not (isAttached s i && eqb (getD (s .domains) i 0) (dom .0))))
 
-unfoldable pub detachFlat : Device → Guest → Domain → Endpoint → ℕ → Worked
-detachFlat d g dom e reserved = settled (detachStatus (d .state) g dom (placeOfEndpoint (d .state) e) reserved) d (left d g (placeOfEndpoint (d .state) e) dom)
+unfoldable pub detachFlat : Device → Guest → Domain → Endpoint → ℕ → StatusAndDevice
+detachFlat d g dom e reserved = settled (detachStatus (d .state) g dom (endpointIndex (d .state) e) reserved) d (left d g (endpointIndex (d .state) e) dom)
 
 -- MAP AND UNMAP
 
@@ -127,18 +127,18 @@ mapStatus d g dom r =
     (any? (overlap r) (liveRecords d))
     (leb (share (d .state .settings) (g .0)) (length (recordsOf g (liveRecords d)))))
 
-unfoldable pub mapFlat : Device → Guest → Domain → Mapping → Worked
+unfoldable pub mapFlat : Device → Guest → Domain → Mapping → StatusAndDevice
 mapFlat d g dom r = settled (mapStatus d g dom r) d (inserted d r)
 
 -- the same where the guest has a place and one record more can be counted, as in a sound device; else a device error
-unfoldable pub mapPlaced : Device → Guest → Domain → Mapping → Worked
-mapPlaced d g dom r = cond (ltb (g .0) maxGuests && ltb (d .state .live) topAddress) (mapFlat d g dom r) (worked DEVERR d)
+unfoldable pub mapPlaced : Device → Guest → Domain → Mapping → StatusAndDevice
+mapPlaced d g dom r = cond (ltb (g .0) maxGuests && ltb (d .state .live) topAddress) (mapFlat d g dom r) (withStatus DEVERR d)
 
 unfoldable pub unmapStatus : Device → Guest → Domain → ℕ → ℕ → ℕ → ℕ
 unmapStatus d g dom a b reserved =
     statusOf (unmapChain (not (existsFlat (d .state) g dom)) (not (eqb reserved 0)) (ltb b a) (any? (straddles (keyOf g dom) a b) (liveRecords d)))
 
-unfoldable pub unmapFlat : Device → Guest → Domain → ℕ → ℕ → ℕ → Worked
+unfoldable pub unmapFlat : Device → Guest → Domain → ℕ → ℕ → ℕ → StatusAndDevice
 unmapFlat d g dom a b reserved = settled (unmapStatus d g dom a b reserved) d (removed d (keyOf g dom) (keyOf g dom) a b)
 
 -- RESET
@@ -161,7 +161,7 @@ decisionAt i n owners attached domains live a =
     (answerOf a (findMapping (keyOf (record { 0 = getD owners i 0 }) (record { 0 = getD domains i 0 })) a live)))
 
 abbrev pub decision : Device → Access → Answer
-decision d a = decisionAt (placeOfEndpoint (d .state) (a .endpoint)) (d .state .listed) (d .state .owners) (d .state .attached) (d .state .domains) (liveRecords d) a
+decision d a = decisionAt (endpointIndex (d .state) (a .endpoint)) (d .state .listed) (d .state .owners) (d .state .attached) (d .state .domains) (liveRecords d) a
 
 -- the state after an access with this answer: a blocked one logs a fault for the endpoint's owner
 unfoldable pub afterAccess : State → Access → Answer → State
@@ -170,7 +170,7 @@ afterAccess s a (Served n) = s
 afterAccess s a (Through x) = s
 afterAccess s a (Fetched n) = s
 afterAccess s a (Refused e) = s
-afterAccess s a (Blocked c) = faultLogged s (ownerAt s (placeOfEndpoint s (a .endpoint))) (faultOf c a)
+afterAccess s a (Blocked c) = faultLogged s (ownerAt s (endpointIndex s (a .endpoint))) (faultOf c a)
 
 -- FETCH
 

@@ -22,15 +22,15 @@ use Rattle.wire_requests.specs.declared.request.Request.{Request}
 use Rattle.wire_requests.specs.declared.request.Request.the-variants.{Attach, Detach, Map, Unmap}
 use Rattle.wire_requests.specs.declared.request.Request.the-variants as Q
 use Rattle.wire_requests.specs.declared.request.MapFields.{MapFields}
-use Rattle.refinement.specs.Flat.{Worked, worked, attachFlat, detachFlat, mapPlaced, unmapFlat}
+use Rattle.refinement.specs.Flat.{StatusAndDevice, withStatus, attachFlat, detachFlat, mapPlaced, unmapFlat}
 
 -- the record that a MAP request of guest g asks for
 abbrev pub recordOf : Guest → Domain → MapFields → Mapping
 recordOf g d f = mapping (keyOf g d) (f .start) (f .end) (f .phys) (f .flags)
 
 -- what the handler of a parsed request gives, by its case; a refused one has none
-unfoldable pub handled : Device → Guest → Request → Worked
-handled d g (Q.Refused a) = worked DEVERR d
+unfoldable pub handled : Device → Guest → Request → StatusAndDevice
+handled d g (Q.Refused a) = withStatus DEVERR d
 handled d g (Attach dom e z) = attachFlat d g dom e z
 handled d g (Detach dom e z) = detachFlat d g dom e z
 handled d g (Map dom f) = mapPlaced d g dom (recordOf g dom f)
@@ -40,7 +40,7 @@ handled d g (Unmap dom f) = unmapFlat d g dom (f .start) (f .end) (f .reserved)
 abbrev pub refusedFlat : Device → List ℕ → Refusal → Reply × Device
 refusedFlat d b e = (record { answer = Refused e; buffer = b }, d)
 
-abbrev pub servedFlat : Worked → Reply × Device
+abbrev pub servedFlat : StatusAndDevice → Reply × Device
 servedFlat x = (record { answer = Served statusSize; buffer = x .status ∷ 0 ∷ 0 ∷ 0 ∷ [] }, x .left)
 
 unfoldable pub unlessRefused : Device → Guest → List ℕ → List ℕ → Option Refusal → Reply × Device

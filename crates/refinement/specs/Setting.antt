@@ -4,7 +4,7 @@ use mathlib.Core.List.{List}
 use Rattle.rules.specs.declared.Settings.{Settings}
 use Rattle.rules.specs.Configuration.{Config}
 use Rattle.rules.specs.Device.{SetUp}
-use Rattle.refinement.specs.declared.Given.{Given}
+use Rattle.refinement.specs.declared.CallResult.{CallResult}
 use Rattle.refinement.specs.Flat.{device}
 
 -- the configuration that settings and the two lent lists make up
@@ -12,5 +12,5 @@ abbrev pub configured : Settings → List ℕ → List ℕ → Config
 configured s es os = record { settings = s; endpoints = es; owners = os }
 
 -- what set-up's result and the table's words make up
-abbrev pub started : Given → List ℕ → SetUp
+abbrev pub started : CallResult → List ℕ → SetUp
 started r ws = record { answer = r .answer; device = device (r .state) ws }

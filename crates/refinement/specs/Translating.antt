@@ -26,5 +26,5 @@ abbrev pub answered : Device → Access → Answer
 answered d a = cond (leb (d .state .listed) maxEndpoints) (inWords (decision d a)) (Refused Unsound)
 
 -- an access: its answer, and the device with its fault logged where it is blocked
-abbrev pub accessFlat : Device → Access → Reply × Device
-accessFlat d a = (record { answer = answered d a; buffer = [] }, device (afterAccess (d .state) a (answered d a)) (d .table))
+abbrev pub accessWhole : Device → Access → Reply × Device
+accessWhole d a = (record { answer = answered d a; buffer = [] }, device (afterAccess (d .state) a (answered d a)) (d .table))

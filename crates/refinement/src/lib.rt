@@ -3,19 +3,19 @@ use rules::Answer;
 use rules::State;
 
 // What a call gives back: its answer, and the next state.
-pub struct Given {
+pub struct CallResult {
     pub answer: Answer,
     pub state: State,
 }
 
 // What a call on lent arrays gives back: its answer, and how many records are live after it.
-pub struct Performed {
+pub struct LentResult {
     pub answer: Answer,
     pub live: usize,
 }
 
 // A request's status, and how many records are live after it.
-pub struct Handled {
+pub struct HandlerResult {
     pub status: u8,
     pub live: usize,
 }

@@ -17,7 +17,7 @@ use Rattle.rules.specs.declared.State.{State}
 use Rattle.rules.specs.declared.Fault.{Fault}
 use Rattle.rules.specs.Sizes.{maxGuests, maxEndpoints, recordWords, tableWords, maxFaults, faultPlaces}
 use Rattle.rules.specs.Table.{records, words, tableOf}
-use Rattle.rules.specs.State.{Shaped, Log, Device, noFault, noLog, configOf, attachment, attachmentAt, domainAt, faultAt, logAt, read, trimmed, flagOf, numberOf, stateOf}
+use Rattle.rules.specs.State.{Lengths, Log, Device, noFault, noLog, configOf, attachment, attachmentAt, domainAt, faultAt, logAt, read, trimmed, flagOf, numberOf, stateOf}
 use Rattle.rules.specs.Handlers.{outside}
 use Rattle.rules.specs.Sound.{attachmentGood, zeroFrom, faultZero, faultPlaceGood, sound}
 use Rattle.rules.proofs.Words.{length-records, words-split}
@@ -48,7 +48,7 @@ read-off m n f z q l e h qz s = tab-is m _ l 0 e (λ i k. go i k (ltb i n) refl)
     go i k true x = ap q (getD-tab n f i z (ltb-true i n x)) ∙ s i (ltb-true i n x)
     go i k false x = ap q (List·getD-eq-default (tab n f) z (rw (length-tab n f) (ltb-false i n x))) ∙ qz ∙ sym (zero-at n l i h (ltb-false i n x) (rw e k))
 
-module _ (d : Device) (h : sound d ≡ true) (k : Shaped (d .state)) where
+module _ (d : Device) (h : sound d ≡ true) (k : Lengths (d .state)) where
   abbrev s : State
   s = d .state
 

@@ -7,7 +7,7 @@ use Rattle.laws.specs.Lists.{weaveBy}
 use Rattle.laws.proofs.Owners.{weave-pick}
 use Rattle.rules.specs.declared.Guest.{Guest}
 use Rattle.rules.specs.Configuration.{Config}
-use Rattle.rules.specs.State.{World, Device, noLog, configOf, read, write, Shaped}
+use Rattle.rules.specs.State.{World, Device, noLog, configOf, read, write, Lengths}
 use Rattle.rules.specs.Guests.{Part, part, replace, withRecordsOf}
 use Rattle.rules.specs.Sound.{sound}
 use Rattle.rules.proofs.PutBack.{with-same}
@@ -30,7 +30,7 @@ module _ (c : Config) (w : World) (h : Whole c w) (g : Guest) where
   pub replace-same : replace c g (part c g w) w ≡ w
   replace-same = unfold replace in rw (attachments-same, records-same, logs-same)
 
-module _ (d : Device) (h : sound d ≡ true) (k : Shaped (d .state)) where
+module _ (d : Device) (h : sound d ≡ true) (k : Lengths (d .state)) where
   pub kept-is : kept (configOf (d .state)) ≡ configOf (d .state)
   kept-is = unfold kept configOf in rw (settings-back d h k)
 

@@ -17,7 +17,7 @@ use Rattle.rules.specs.declared.Answer.the-variants.{Done, Through}
 use Rattle.rules.specs.Sizes.{maxRecords, tableWords}
 use Rattle.rules.specs.Configuration.{Config, share, windowFirst, windowLast, good}
 use Rattle.rules.specs.Table.{keyOf, mapping}
-use Rattle.rules.specs.State.{Device, configOf, read, zeroState, Shaped}
+use Rattle.rules.specs.State.{Device, configOf, read, zeroState, Lengths}
 use Rattle.rules.specs.Guests.{Part, own, part}
 use Rattle.rules.specs.Answers.{number, usedLength, addressOf}
 use Rattle.rules.specs.Requests.{OK, NOMEM, typeOf, readableLength, writableLength}
@@ -159,13 +159,13 @@ changesNothing n = any? (eqb n) (1 ∷ 2 ∷ 3 ∷ 4 ∷ 6 ∷ [])
 
 abbrev pub RefusalsChangeNothing : Type 0
 RefusalsChangeNothing =
-    (d : Device) → Shaped (d .state) → (x : Call) → changesNothing (number (step d x .0 .answer)) ≡ true
+    (d : Device) → Lengths (d .state) → (x : Call) → changesNothing (number (step d x .0 .answer)) ≡ true
     → (step d x .1 ≡ d) × (step d x .0 .buffer ≡ lent x)
 
 -- "Any status but OK changes nothing except the four status bytes."
 abbrev pub FailuresChangeNothing : Type 0
 FailuresChangeNothing =
-    (d : Device) → Shaped (d .state)
+    (d : Device) → Lengths (d .state)
     → (g : Guest) (readable writable : List ℕ) → number (step d (of-guest g (request readable writable)) .0 .answer) ≡ 0
     → (getD (step d (of-guest g (request readable writable)) .0 .buffer) 0 0 ≡ OK → ⊥)
     → step d (of-guest g (request readable writable)) .1 ≡ d
@@ -173,7 +173,7 @@ FailuresChangeNothing =
 -- an access that goes through
 abbrev pub ThroughChangesNothing : Type 0
 ThroughChangesNothing =
-    (d : Device) → Shaped (d .state) → (a : Access) → number (step d (access-by a) .0 .answer) ≡ 0 → step d (access-by a) .1 ≡ d
+    (d : Device) → Lengths (d .state) → (a : Access) → number (step d (access-by a) .0 .answer) ≡ 0 → step d (access-by a) .1 ≡ d
 
 -- of set-up: "table untouched; the state given back has every number zero"
 abbrev pub RefusedSetUpIsZero : Type 0

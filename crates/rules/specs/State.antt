@@ -166,7 +166,7 @@ zeroState =
     }
 
 -- the lengths of the state's arrays, which their types fix
-pub record Shaped (s : State) : Type 0 where
+pub record Lengths (s : State) : Type 0 where
   pub shares : length (s .settings .shares) ≡ maxGuests
   pub firsts : length (s .settings .firsts) ≡ maxGuests
   pub lasts : length (s .settings .lasts) ≡ maxGuests

@@ -7,13 +7,13 @@ use lib.Bits.{bitOr}
 use lib.Dec.{eqb}
 use lib.ListN.{length, getD, drop, drop-of-length-le}
 use Rattle.laws.specs.Lists.{all?}
-use Rattle.laws.proofs.Tests.{eqb-turn}
+use Rattle.laws.proofs.Tests.{eqb-sym}
 use Rattle.laws.proofs.Bits.{or-zero}
-use Rattle.laws.proofs.Turns.{drop-next}
+use Rattle.laws.proofs.Rounds.{drop-next}
 
 module _ (l : List ℕ) (bits i : ℕ) where
   pub zeros-on : i < length l → (eqb bits 0 && all? (eqb 0) (drop i l)) ≡ (eqb (bitOr bits (getD l i 0)) 0 && all? (eqb 0) (drop (i + 1) l))
-  zeros-on h = rw (drop-next l i 0 h, or-zero, eqb-turn (getD l i 0) 0) (sym (and-assoc (eqb bits 0) (eqb 0 (getD l i 0)) _))
+  zeros-on h = rw (drop-next l i 0 h, or-zero, eqb-sym (getD l i 0) 0) (sym (and-assoc (eqb bits 0) (eqb 0 (getD l i 0)) _))
 
   pub zeros-end : length l ≤ i → (eqb bits 0 && all? (eqb 0) (drop i l)) ≡ eqb bits 0
   zeros-end h = rw (drop-of-length-le l {i = i} h) (and-true (eqb bits 0))

@@ -32,7 +32,7 @@ use Rattle.map_steps.specs.Forms.{limits, formGood}
 use Rattle.sound_records.specs.Scan.{ownGood, domainGood, scan, roomTests}
 use Rattle.sound_records.proofs.Room.{room-tests}
 use Rattle.sound_records.proofs.Order.{Scanned, from-scan, to-scan}
-use Rattle.sound.specs.Pieces.{frameAlone, framed}
+use Rattle.sound.specs.Assembled.{frameAlone, framed}
 
 -- what does not hold where a test fails that it implies
 unless : (a b : Bool) → (b ≡ true → a ≡ true) → a ≡ false → b ≡ false

@@ -1,10 +1,10 @@
 // The test that comes before every job of a guest's.
 ghost use mathlib.Core.Path.{_≡_};
-ghost use Rattle.rules.specs.State.{Shaped};
-ghost use Rattle.state_fields.specs.Pieces.{stateWith};
+ghost use Rattle.rules.specs.State.{Lengths};
+ghost use Rattle.state_fields.specs.Assembled.{stateWith};
 ghost use Rattle.sound.specs.Checks.{jobChecked};
 ghost use Rattle.sound.specs.declared.checking.Checked.the-variants.{Passed};
-ghost use Rattle.sound.specs.Pieces.{deviceWith};
+ghost use Rattle.sound.specs.Assembled.{deviceWith};
 use crate::is_sound;
 use rules::Guest;
 use rules::Refusal;
@@ -39,7 +39,7 @@ pub fn check_job<'a>(
     g: Guest,
 ) -> Checked
     ensures { λ r. ⌜ r ≡ jobChecked (deviceWith settings listed live (now (endpoints .entry)) (now (owners .entry)) (now (attached .entry)) (now (domains .entry)) (now (logged .entry)) (now (lost .entry)) (now (reasons .entry)) (now (flags .entry)) (now (sources .entry)) (now (addresses .entry)) (now (t .entry))) g ⌝ }
-    ensures { λ r. ⌜ (r ≡ Passed → Shaped (stateWith settings listed live (now (endpoints .entry)) (now (owners .entry)) (now (attached .entry)) (now (domains .entry)) (now (logged .entry)) (now (lost .entry)) (now (reasons .entry)) (now (flags .entry)) (now (sources .entry)) (now (addresses .entry)))) ⌝ }
+    ensures { λ r. ⌜ (r ≡ Passed → Lengths (stateWith settings listed live (now (endpoints .entry)) (now (owners .entry)) (now (attached .entry)) (now (domains .entry)) (now (logged .entry)) (now (lost .entry)) (now (reasons .entry)) (now (flags .entry)) (now (sources .entry)) (now (addresses .entry)))) ⌝ }
 {
     if settings.guests <= (g.0 as usize) {
         return Checked::Refused(Refusal::NoSuchGuest);

@@ -8,9 +8,9 @@ ghost use lib.Dec.{eqb};
 ghost use lib.ListN.{length, take};
 ghost use Rattle.rules.specs.Configuration.{windowLast};
 ghost use Rattle.rules.specs.Sound.{sound};
-ghost use Rattle.rules.specs.State.{Shaped};
-ghost use Rattle.state_fields.specs.Pieces.{stateWith};
-ghost use Rattle.sound.specs.Pieces.{framed, deviceWith};
+ghost use Rattle.rules.specs.State.{Lengths};
+ghost use Rattle.state_fields.specs.Assembled.{stateWith};
+ghost use Rattle.sound.specs.Assembled.{framed, deviceWith};
 pub use checking::Checked;
 pub use checking::check_job;
 use config_endpoints::good_lists;
@@ -145,7 +145,7 @@ pub fn is_sound<'a>(
     t: &'a [u64],
 ) -> bool
     ensures { λ r. ⌜ r ≡ sound (deviceWith settings listed live (now (endpoints .entry)) (now (owners .entry)) (now (attached .entry)) (now (domains .entry)) (now (logged .entry)) (now (lost .entry)) (now (reasons .entry)) (now (flags .entry)) (now (sources .entry)) (now (addresses .entry)) (now (t .entry))) ⌝ }
-    ensures { λ r. ⌜ Shaped (stateWith settings listed live (now (endpoints .entry)) (now (owners .entry)) (now (attached .entry)) (now (domains .entry)) (now (logged .entry)) (now (lost .entry)) (now (reasons .entry)) (now (flags .entry)) (now (sources .entry)) (now (addresses .entry))) ⌝ }
+    ensures { λ r. ⌜ Lengths (stateWith settings listed live (now (endpoints .entry)) (now (owners .entry)) (now (attached .entry)) (now (domains .entry)) (now (logged .entry)) (now (lost .entry)) (now (reasons .entry)) (now (flags .entry)) (now (sources .entry)) (now (addresses .entry))) ⌝ }
     ensures { λ r. ⌜ ((i : ℕ) → windowLast settings i ≤ 18446744073709551615) ⌝ }
 {
     show_lengths(

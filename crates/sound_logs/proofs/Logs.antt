@@ -8,7 +8,7 @@ use native.Mathlib.Omega.{arith}
 use lib.ListN.{length, getD}
 use borrow.Author.Tests.{lt-ltb, le-ltb}
 use Rattle.laws.specs.Lists.{every?, below, pickBy, tab}
-use Rattle.laws.proofs.Turns.{below-same, below-append, below-grid}
+use Rattle.laws.proofs.Rounds.{below-same, below-append, below-grid}
 use Rattle.rules.specs.declared.Fault.{Fault}
 use Rattle.rules.specs.Sizes.{maxGuests, maxEndpoints, maxFaults, faultPlaces}
 use Rattle.rules.specs.State.{configOf}

@@ -11,7 +11,7 @@ use borrow.Author.Tests.{eqb-true, le-ltb}
 use Rattle.laws.specs.Lists.{every?, below}
 use Rattle.laws.proofs.Bits.{or-zero}
 use Rattle.laws.proofs.Tables.{below-at}
-use Rattle.laws.proofs.Turns.{below-same}
+use Rattle.laws.proofs.Rounds.{below-same}
 use Rattle.rules.specs.declared.State.{State}
 use Rattle.rules.specs.Sizes.{maxGuests, maxFaults, faultPlaces}
 use Rattle.rules.specs.State.{configOf, faultAt}
@@ -28,10 +28,10 @@ no-faults s h =
     rw (none, le-ltb (i % maxFaults) 0 (omega arith), zero-add i))
 
 -- one more place, where the bits of its numbers are gathered
-pub zero-turn : (reason flags source address narrow broad : ℕ)
+pub zero-round : (reason flags source address narrow broad : ℕ)
     → (eqb (bitOr (bitOr reason (bitOr flags source)) narrow) 0 && eqb (bitOr address broad) 0)
     ≡ (((eqb reason 0 && eqb flags 0) && (eqb source 0 && eqb address 0)) && (eqb narrow 0 && eqb broad 0))
-zero-turn reason flags source address narrow broad =
+zero-round reason flags source address narrow broad =
     rw (or-zero (bitOr reason (bitOr flags source)) narrow, or-zero reason (bitOr flags source), or-zero flags source, or-zero address broad)
     (go (eqb reason 0) (eqb flags 0) (eqb source 0) (eqb address 0) (eqb narrow 0) (eqb broad 0))
   where

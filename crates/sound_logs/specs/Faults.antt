@@ -10,7 +10,7 @@ use Rattle.rules.specs.declared.Fault.{Fault}
 use Rattle.rules.specs.State.{zeroState}
 use Rattle.rules.specs.Guests.{Own}
 use Rattle.rules.specs.Sound.{guest, faultGood, faultZero}
-use Rattle.state_fields.specs.Pieces.{stateWith}
+use Rattle.state_fields.specs.Assembled.{stateWith}
 
 -- a state of endpoints and faults alone: what the test of the fault places looks at
 abbrev pub faultsAlone : ℕ → List ℕ → List ℕ → List ℕ → List ℕ → List ℕ → List ℕ → List ℕ → State

@@ -14,7 +14,7 @@ use Rattle.rules.specs.declared.DomainRange.{DomainRange}
 use Rattle.rules.specs.declared.State.{State}
 use Rattle.rules.specs.Configuration.{Config, share, windowFirst, windowLast}
 use Rattle.rules.specs.Sound.{attachmentGood}
-use Rattle.state_fields.specs.Pieces.{stateWith}
+use Rattle.state_fields.specs.Assembled.{stateWith}
 
 -- a guest's numbers: in use, with log count and lost count within their limits, or zero
 unfoldable pub guestGood : Bool → ℕ → ℕ → ℕ → ℕ → ℕ → Bool

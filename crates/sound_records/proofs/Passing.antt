@@ -21,7 +21,7 @@ use Rattle.table_record.proofs.Laws.{gone}
 use Rattle.map_steps.specs.Forms.{formGood, run}
 use Rattle.map_steps.proofs.Going.{now-at}
 use Rattle.sound_records.specs.Scan.{ownGood, scan, opening}
-use Rattle.laws.proofs.Turns.{below-same}
+use Rattle.laws.proofs.Rounds.{below-same}
 use Rattle.sound_records.proofs.GoingOn.{run-own, run-other}
 
 -- a guest that is one, and one that is none

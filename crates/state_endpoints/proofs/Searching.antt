@@ -6,7 +6,7 @@ use mathlib.Core.Bool.{Bool, false, _||_}
 use native.Mathlib.Numerals.{add-one}
 use lib.ListN.{length, getD, drop, drop-of-length-le}
 use borrow.Author.Tests.{eq-eqb, ne-eqb}
-use Rattle.laws.proofs.Turns.{drop-next}
+use Rattle.laws.proofs.Rounds.{drop-next}
 use Rattle.state_endpoints.specs.Search.{indexOf, anyBelow}
 
 -- from zero upwards
@@ -14,9 +14,9 @@ pub any-zero : (q : ℕ → Bool) → anyBelow 0 q ≡ false
 unfolding anyBelow
 any-zero q = refl
 
-pub any-turn : (n : ℕ) (q : ℕ → Bool) → anyBelow (n + 1) q ≡ (q n || anyBelow n q)
+pub any-round : (n : ℕ) (q : ℕ → Bool) → anyBelow (n + 1) q ≡ (q n || anyBelow n q)
 unfolding anyBelow
-any-turn n q = rw (add-one n)
+any-round n q = rw (add-one n)
 
 -- the search, from the last place to the first
 module _ (e : ℕ) (xs : List ℕ) (i : ℕ) where

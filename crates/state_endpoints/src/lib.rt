@@ -9,7 +9,7 @@ ghost use Rattle.state_endpoints.specs.Changes.{attachedAt};
 use rules::Domain;
 use rules::sizes::MAX_ENDPOINTS;
 pub use search::domain_exists;
-pub use search::place_of;
+pub use search::index_of;
 
 // The attached flag at place i; 0 where there is no such place.
 pub fn flag_at(flags: &[u8], i: usize) -> u8

@@ -9,7 +9,7 @@ use rules::Guest;
 use state_fields::least;
 
 // The first place of an endpoint among the first n; their number where it is not among them.
-pub fn place_of(n: usize, endpoints: &[u32], e: Endpoint) -> usize
+pub fn index_of(n: usize, endpoints: &[u32], e: Endpoint) -> usize
     ensures { λ r. ⌜ r ≡ indexOf (e .0) (take n (now (endpoints .entry))) ⌝ }
 {
     let number = e.0;

@@ -8,11 +8,11 @@ use borrow.Author.Needs.{length-unmapped}
 use Rattle.rules.specs.Sizes.{maxGuests, maxEndpoints, faultPlaces}
 use Rattle.rules.specs.declared.State.{State}
 use Rattle.rules.proofs.State as declared-state
-use Rattle.rules.specs.State.{Shaped}
+use Rattle.rules.specs.State.{Lengths}
 
 -- each state that a function is handed has the lengths that the types of its arrays fix
-pub shaped : (s : State) (vs : List Val) → Is (row declared-state.the-type) s vs → Shaped s
-shaped s vs h =
+pub lengths-hold : (s : State) (vs : List Val) → Is (row declared-state.the-type) s vs → Lengths s
+lengths-hold s vs h =
     let o = h .1 .1 .0 .1 .1 .1 in
     let w = h .1 .1 .1 .1 in
     let x = w .1 .1 in

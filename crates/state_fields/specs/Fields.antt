@@ -6,7 +6,7 @@ use Rattle.rules.specs.declared.InputRange.{InputRange}
 use Rattle.rules.specs.declared.DomainRange.{DomainRange}
 use Rattle.rules.specs.declared.Settings.{Settings}
 use Rattle.rules.specs.declared.State.{State}
-use Rattle.state_fields.specs.Pieces.{settingsWith, stateWith}
+use Rattle.state_fields.specs.Assembled.{settingsWith, stateWith}
 
 -- SETTINGS
 

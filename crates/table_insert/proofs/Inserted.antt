@@ -16,14 +16,14 @@ use Rattle.rules.proofs.Records.{length-insert}
 use Rattle.table_record.specs.Records.{spare}
 use Rattle.table_record.proofs.Stored.{words-append, drop-words}
 use Rattle.table_record.proofs.Tables.{length-table, table-live, table-drop, table-is}
-use Rattle.table_insert.specs.Inserted.{placeOfMapping, insertAt, insertedWords}
+use Rattle.table_insert.specs.Inserted.{mappingIndex, insertAt, insertedWords}
 
 -- a record in its place
-pub insert-place : (r : Mapping) (l : List Mapping) → insertAt (placeOfMapping r l) r l ≡ insertMapping r l
+pub insert-place : (r : Mapping) (l : List Mapping) → insertAt (mappingIndex r l) r l ≡ insertMapping r l
 insert-place r [] = refl
 insert-place r (s ∷ l) = go (before r s) (insert-place r l)
   where
-    go : (b : Bool) → insertAt (placeOfMapping r l) r l ≡ insertMapping r l → insertAt (cond b 0 (suc (placeOfMapping r l))) r (s ∷ l) ≡ cond b (r ∷ s ∷ l) (s ∷ insertMapping r l)
+    go : (b : Bool) → insertAt (mappingIndex r l) r l ≡ insertMapping r l → insertAt (cond b 0 (suc (mappingIndex r l))) r (s ∷ l) ≡ cond b (r ∷ s ∷ l) (s ∷ insertMapping r l)
     go true e = refl
     go false e = ap (λ (m : List Mapping). s ∷ m) e
 

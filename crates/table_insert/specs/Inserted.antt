@@ -9,9 +9,9 @@ use Rattle.rules.specs.Sizes.{recordWords}
 use Rattle.rules.specs.Table.{records, words, before, insertMapping}
 
 -- how many records stand before the first that r goes before
-abbrev pub placeOfMapping : Mapping → List Mapping → ℕ
-placeOfMapping r [] = 0
-placeOfMapping r (s ∷ l) = cond (before r s) 0 (suc (placeOfMapping r l))
+abbrev pub mappingIndex : Mapping → List Mapping → ℕ
+mappingIndex r [] = 0
+mappingIndex r (s ∷ l) = cond (before r s) 0 (suc (mappingIndex r l))
 
 -- x at place n of a list
 abbrev pub insertAt : {A : Type 0} → ℕ → A → List A → List A

@@ -5,7 +5,7 @@ ghost use Prim.Native.Nat.{_+_, _<_, _≤_};
 ghost use lib.ListN.{length, take, drop};
 ghost use Rattle.rules.specs.Table.{records, words, before};
 ghost use Rattle.table_record.specs.Records.{spare};
-ghost use Rattle.table_insert.specs.Inserted.{placeOfMapping, insertAt, insertedWords};
+ghost use Rattle.table_insert.specs.Inserted.{mappingIndex, insertAt, insertedWords};
 use table_record::write;
 use rules::Mapping;
 use rules::sizes::RECORD_WORDS;
@@ -18,9 +18,9 @@ fn precedes(r: Mapping, s: Mapping) -> bool
 }
 
 // How many of the first live records stand before the first that r goes before.
-fn place(t: &[u64], live: usize, r: Mapping) -> usize
+fn insertion_index(t: &[u64], live: usize, r: Mapping) -> usize
     requires { ⌜ live ≤ length (records (now t)) ⌝ }
-    ensures { λ n. ⌜ (n ≡ placeOfMapping r (take live (records (now (t .entry))))) × (n ≤ live) ⌝ }
+    ensures { λ n. ⌜ (n ≡ mappingIndex r (take live (records (now (t .entry))))) × (n ≤ live) ⌝ }
 {
     for i in 0..live {
         if precedes(r, table_record::get(t, i)) {
@@ -49,7 +49,7 @@ pub fn insert_mapping(t: &mut [u64], live: usize, r: Mapping)
     ensures { λ _. ⌜ now (t .exit) ≡ insertedWords live r (now (t .entry)) ⌝ }
 {
     if live < t.len() / RECORD_WORDS {
-        let at = place(t, live, r);
+        let at = insertion_index(t, live, r);
         shift_in(t, at, live, r);
     }
 }

@@ -1,7 +1,7 @@
 -- `call_unmap::handle_unmap` meets its contract. Assumes nothing.
 use borrow.Author.Needs.{needs}
 use Rattle.state_fields.specs.Fields.{withDomains}
-use Rattle.refinement.proofs.Turns.{remove-turn}
+use Rattle.refinement.proofs.Rounds.{removed-is}
 use Rattle.call_unmap.proofs.Unmapped.{unmap-refused, unmap-done}
 use Rattle.call_unmap.proofs.handle_unmap.Statement.{statement}
 use Rattle.call_unmap.proofs.handle_unmap.Tie as tie
@@ -22,7 +22,7 @@ returns-2 c s =
     let a = e .before .before .before .before .args in
     let here = withDomains (a .owners .now) (a .attached .now) (a .domains .now) (a .live) s in
     let next = withDomains (a .owners .now) (a .attached .now) (a .domains .now) (r .result) s in
-    let gone = remove-turn here (a .t .now) (r .last .0) (k .result) (k .result) (a .a) (a .b) (r .result) (r .ensures .0) (r .ensures .1) in
+    let gone = removed-is here (a .t .now) (r .last .0) (k .result) (k .result) (a .a) (a .b) (r .result) (r .ensures .0) (r .ensures .1) in
     unmap-done here (a .t .now) (a .g) (a .d) (a .a) (a .b) (a .reserved) (x .result) (x .ensures s) (k .result) next (r .last .0) (e .if1 .left) (k .ensures) gone
 
 pub handle-unmap-spec : {M : Type 1} → statement M

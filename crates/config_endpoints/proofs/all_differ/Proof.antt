@@ -7,7 +7,7 @@ use mathlib.Core.Bool.{not, _&&_}
 use lib.Dec.{eqb}
 use lib.ListN.{length, take, drop}
 use Rattle.laws.specs.Lists.{pairwise}
-use Rattle.config_endpoints.proofs.Turns.{pairs-turn, pairs-left}
+use Rattle.config_endpoints.proofs.Rounds.{pairs-round, pairs-left}
 use Rattle.config_endpoints.proofs.all_differ.Statement.{statement}
 use Rattle.config_endpoints.proofs.all_differ.Tie as tie
 
@@ -25,7 +25,7 @@ loop-again : tie.Need-loop-again Inv-loop μ-loop
 loop-again c =
     let l = c .before .before .loop in
     let a = c .before .before .before .before .args in
-    let t = pairs-turn (a .endpoints .now) (a .n) (l .inv .1) (l .i) (l .ok) (λ x y. not (eqb x y)) (omega arith) in
+    let t = pairs-round (a .endpoints .now) (a .n) (l .inv .1) (l .i) (l .ok) (λ x y. not (eqb x y)) (omega arith) in
     (omega arith, l .inv .1, l .inv .2 ∙ rw (← c .not-later .ensures) at t)
 
 returns : tie.Need-returns Inv-loop μ-loop

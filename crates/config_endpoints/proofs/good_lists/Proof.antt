@@ -8,7 +8,7 @@ use lib.ListN.{take, length-take}
 use Rattle.laws.specs.Lists.{pairwise}
 use Rattle.rules.specs.Sizes.{maxEndpoints}
 use Rattle.rules.specs.Configuration.{goodLists}
-use Rattle.config_endpoints.proofs.Turns.{take-least}
+use Rattle.config_endpoints.proofs.Rounds.{take-least}
 use Rattle.config_endpoints.proofs.good_lists.Statement.{statement}
 use Rattle.config_endpoints.proofs.good_lists.Tie as tie
 

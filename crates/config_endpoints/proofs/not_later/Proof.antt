@@ -7,7 +7,7 @@ use mathlib.Core.Bool.{not, _&&_}
 use lib.Dec.{eqb}
 use lib.ListN.{length, take, drop, getD}
 use Rattle.laws.specs.Lists.{all?}
-use Rattle.config_endpoints.proofs.Turns.{all-turn, all-left}
+use Rattle.config_endpoints.proofs.Rounds.{all-round, all-left}
 use Rattle.config_endpoints.proofs.not_later.Statement.{statement}
 use Rattle.config_endpoints.proofs.not_later.Tie as tie
 
@@ -25,7 +25,7 @@ loop-again : tie.Need-loop-again Inv-loop μ-loop
 loop-again c =
     let l = c .before .before .loop in
     let a = c .before .before .before .before .args in
-    (omega arith, l .inv .1, l .inv .2 ∙ all-turn (a .endpoints .now) (a .n) (l .inv .1) (l .j) (l .ok) (λ b. not (eqb (getD (a .endpoints .now) (a .i) 0) b)) (omega arith))
+    (omega arith, l .inv .1, l .inv .2 ∙ all-round (a .endpoints .now) (a .n) (l .inv .1) (l .j) (l .ok) (λ b. not (eqb (getD (a .endpoints .now) (a .i) 0) b)) (omega arith))
 
 returns : tie.Need-returns Inv-loop μ-loop
 returns c =

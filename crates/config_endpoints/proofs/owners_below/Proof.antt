@@ -7,7 +7,7 @@ use mathlib.Core.Bool.{_&&_}
 use lib.Dec.{ltb}
 use lib.ListN.{length, take, drop}
 use Rattle.laws.specs.Lists.{all?}
-use Rattle.config_endpoints.proofs.Turns.{all-turn, all-left}
+use Rattle.config_endpoints.proofs.Rounds.{all-round, all-left}
 use Rattle.config_endpoints.proofs.owners_below.Statement.{statement}
 use Rattle.config_endpoints.proofs.owners_below.Tie as tie
 
@@ -28,7 +28,7 @@ loop-again : tie.Need-loop-again Inv-loop μ-loop
 loop-again c =
     let l = c .before .before .loop in
     let a = c .before .before .before .args in
-    (omega arith, l .inv .1, l .inv .2 ∙ all-turn (a .owners .now) (a .n) (l .inv .1) (l .i) (l .ok) (λ o. ltb o (a .guests)) (omega arith))
+    (omega arith, l .inv .1, l .inv .2 ∙ all-round (a .owners .now) (a .n) (l .inv .1) (l .i) (l .ok) (λ o. ltb o (a .guests)) (omega arith))
 
 returns : tie.Need-returns Inv-loop μ-loop
 returns c =

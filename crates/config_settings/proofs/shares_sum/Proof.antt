@@ -8,7 +8,7 @@ use mir.Syntax.{w32}
 use mir.Val.{Fits}
 use Rattle.laws.specs.Lists.{sumBelow}
 use Rattle.rules.specs.Configuration.{share}
-use Rattle.config_settings.proofs.Sums.{sum-empty, sum-turn}
+use Rattle.config_settings.proofs.Sums.{sum-empty, sum-round}
 use Rattle.config_settings.proofs.shares_sum.Statement.{statement}
 use Rattle.config_settings.proofs.shares_sum.Tie as tie
 
@@ -33,7 +33,7 @@ loop-again c =
     let l = c .before .loop in
     let s = c .before .before .before .args .s in
     let f : Fits w32 (share s (l .g)) = search needs in
-    (omega arith, l .inv .1, omega (arith, f .fits), rw (sum-turn (l .g) (share s), ← l .inv .3))
+    (omega arith, l .inv .1, omega (arith, f .fits), rw (sum-round (l .g) (share s), ← l .inv .3))
 
 returns : tie.Need-returns Inv-loop μ-loop
 returns c =

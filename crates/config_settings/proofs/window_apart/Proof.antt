@@ -6,7 +6,7 @@ use mathlib.Core.Path.{refl}
 use mathlib.Core.Bool.{not, _&&_}
 use lib.Dec.{leb}
 use lib.ListN.{getD}
-use Rattle.laws.proofs.Turns.{Tested, tested-none, tested-next, tested-all}
+use Rattle.laws.proofs.Rounds.{Tested, tested-none, tested-next, tested-all}
 use Rattle.rules.specs.Sizes.{maxGuests}
 use Rattle.config_settings.proofs.window_apart.Statement.{statement}
 use Rattle.config_settings.proofs.window_apart.Tie as tie

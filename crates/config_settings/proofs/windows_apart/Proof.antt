@@ -4,7 +4,7 @@ use borrow.Author.Needs.{needs}
 use Prim.Native.Nat.{_-_}
 use mathlib.Core.Bool.{not}
 use Rattle.laws.specs.Lists.{below}
-use Rattle.laws.proofs.Turns.{Tested, tested-none, tested-next, tested-all}
+use Rattle.laws.proofs.Rounds.{Tested, tested-none, tested-next, tested-all}
 use Rattle.rules.specs.Configuration.{shareAddress}
 use Rattle.config_settings.proofs.windows_apart.Statement.{statement}
 use Rattle.config_settings.proofs.windows_apart.Tie as tie

@@ -5,7 +5,7 @@ use Prim.Native.Nat.{_≤_, _-_}
 use mathlib.Core.Path.{refl}
 use lib.Dec.{leb}
 use lib.ListN.{getD}
-use Rattle.laws.proofs.Turns.{Tested, tested-none, tested-next, tested-all}
+use Rattle.laws.proofs.Rounds.{Tested, tested-none, tested-next, tested-all}
 use Rattle.rules.specs.Sizes.{maxGuests}
 use Rattle.config_settings.proofs.windows_filled.Statement.{statement}
 use Rattle.config_settings.proofs.windows_filled.Tie as tie

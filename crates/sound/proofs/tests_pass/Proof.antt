@@ -8,7 +8,7 @@ use Rattle.rules.specs.State.{Device, configOf}
 use Rattle.rules.specs.Guests.{own}
 use Rattle.rules.specs.Sound.{attachmentGood, faultGood, faultPlaceGood}
 use Rattle.rules.proofs.Groups.{Framed, frame-facts, place-facts, log-facts}
-use Rattle.sound.specs.Pieces.{deviceWith, framed}
+use Rattle.sound.specs.Assembled.{deviceWith, framed}
 use Rattle.sound.proofs.Verdict.{granted, guests-fit, endpoints-fit, room, frame-fails, places-fail, logs-fail, zeros-fail, decided}
 use Rattle.sound.proofs.tests_pass.Statement.{statement}
 use Rattle.sound.proofs.tests_pass.Tie as tie

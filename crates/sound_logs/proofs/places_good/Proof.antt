@@ -5,7 +5,7 @@ use Prim.Native.Nat.{_+_, _*_, _-_}
 use mathlib.Core.Path.{_∙_}
 use lib.ListN.{getD}
 use Rattle.laws.specs.Lists.{below, pickBy}
-use Rattle.laws.proofs.Turns.{Tested, tested-none, tested-next, tested-all}
+use Rattle.laws.proofs.Rounds.{Tested, tested-none, tested-next, tested-all}
 use Rattle.rules.specs.Sizes.{maxGuests, maxFaults}
 use Rattle.sound_logs.specs.Faults.{faultIn, placeGood}
 use Rattle.sound_logs.proofs.Logs.{logs-good}

@@ -18,7 +18,7 @@ returns c =
     let s = c .before .before in
     let a = s .before .before .before .before .before .before .args in
     let L = take (a .live) (records (a .t .now)) in
-    let p : insertAt (s .before .before .place .result) (a .r) L ≡ insertMapping (a .r) L = ap (λ n. insertAt n (a .r) L) (s .before .before .place .ensures .0) ∙ insert-place (a .r) L in
+    let p : insertAt (s .before .before .insertion-index .result) (a .r) L ≡ insertMapping (a .r) L = ap (λ n. insertAt n (a .r) L) (s .before .before .insertion-index .ensures .0) ∙ insert-place (a .r) L in
     s .shift-in .ensures ∙ rw p (sym (inserted-words (a .live) (a .r) (a .t .now) (omega (arith, length-records (a .t .now)))))
 
 returns-2 : tie.Need-returns-2

@@ -21,7 +21,7 @@ returns c s =
 
 returns-2 : tie.Need-returns-2
 returns-2 c s =
-    let p = c .before .place-of in
+    let p = c .before .index-of in
     let e = c .before .before .before in
     let start = e .before .before in
     let a = start .args in
@@ -31,7 +31,7 @@ returns-2 c s =
 returns-3 : tie.Need-returns-3
 returns-3 c s =
     let i = c .before .before in
-    let p = i .before .place-of in
+    let p = i .before .index-of in
     let e = i .before .before .before in
     let start = e .before .before in
     let a = start .args in
@@ -43,7 +43,7 @@ returns-4 c s =
     let k = c .before .key-of in
     let j = c .before .before .before .before in
     let i = j .before .before in
-    let p = i .before .place-of in
+    let p = i .before .index-of in
     let e = i .before .before .before in
     let start = e .before .before in
     let a = start .args in

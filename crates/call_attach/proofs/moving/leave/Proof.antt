@@ -1,7 +1,7 @@
 -- `call_attach::leave` meets its contract. Assumes nothing.
 use borrow.Author.Needs.{needs}
 use Rattle.state_fields.specs.Fields.{withDomains}
-use Rattle.refinement.proofs.Turns.{remove-turn}
+use Rattle.refinement.proofs.Rounds.{removed-is}
 use Rattle.call_attach.proofs.Leaving.{left-stays, left-goes}
 use Rattle.call_attach.proofs.moving.leave.Statement.{statement}
 use Rattle.call_attach.proofs.moving.leave.Tie as tie
@@ -25,7 +25,7 @@ returns-2 c s =
     let a = e .before .before .before .before .before .before .before .before .args in
     let here = withDomains (a .owners .now) (a .attached .now) (a .domains .now) (a .live) s in
     let next = withDomains (a .owners .now) (n .last .0) (n .last .1 .0) (a .live) s in
-    let gone = remove-turn next (a .t .now) (r .last .0) (k .result) (k .result) 0 _ (r .result) (r .ensures .0) (r .ensures .1) in
+    let gone = removed-is next (a .t .now) (r .last .0) (k .result) (k .result) 0 _ (r .result) (r .ensures .0) (r .ensures .1) in
     left-goes here next (withDomains (a .owners .now) (n .last .0) (n .last .1 .0) (r .result) s) (a .t .now) (r .last .0) (a .g) (a .i) (a .d) (x .result) (k .result) (n .ensures here) (x .ensures next) (e .if1 .left) (k .ensures) gone
 
 pub leave-spec : {M : Type 1} → statement M

@@ -7,11 +7,11 @@ use mir.Val.{Fits}
 use borrow.Author.Needs.{needs}
 use Rattle.rules.specs.declared.State.{State}
 use Rattle.rules.specs.Configuration.{windowLast}
-use Rattle.state_fields.specs.Pieces.{stateWith}
+use Rattle.state_fields.specs.Assembled.{stateWith}
 use Rattle.refinement.specs.Flat.{device}
 use Rattle.journal_records.specs.declared.Item.{Item}
 use Rattle.journal_records.specs.Items.{front}
-use Rattle.journal_session.specs.Turns.{turnOf}
+use Rattle.journal_session.specs.Steps.{stepOf}
 use Rattle.journal_step.proofs.Reading.{works, front-fits, asks-few}
 use Rattle.journal_run.specs.Running.{Ready}
 use Rattle.journal_run.proofs.Running.{tells-stop, told-item, told-request, told-access, told-reset, told-fetch}
@@ -95,11 +95,11 @@ work-record-spec =
     (λ c. c .match .keys7) (λ c κs. start (c .before .before .before .before .before .before .before .before .before .before .before .before .before) .pre .0)
     (λ c. c .match .keys8) (λ c κs. start (c .before .before .before .before .before .before .before .before .before .before .before .before .before) .pre .0)
     (λ c. c .match .keys9) fetch-requires
-    (λ c. let f = c .before .before .before in unfold turnOf in told-item (now f) (start f .args .t .now) (start f .args .b .now) (is f (c .before .enum-told .given .1)) (tells-stop (with f) (c .unread .ensures)))
-    (λ c. let f = c .before .before .before in unfold turnOf in told-item (now f) (start f .args .t .now) (start f .args .b .now) (is f (c .before .enum-told2 .given .1)) (tells-stop (with f) (c .unread2 .ensures)))
-    (λ c. let f = c .before .before .before in unfold turnOf in told-item (now f) (start f .args .t .now) (start f .args .b .now) (is f (c .before .enum-told3 .given .1)) (tells-stop (with f) (c .unread3 .ensures)))
-    (λ c. let f = c .before .before .before in unfold turnOf in told-item (now f) (start f .args .t .now) (start f .args .b .now) (is f (c .before .enum-told4 .given .1)) (tells-stop (with f) (c .unread4 .ensures)))
-    (λ c. let f = c .before .before .before in unfold turnOf in told-item (now f) (start f .args .t .now) (start f .args .b .now) (is f (c .before .enum-told5 .given .1)) (tells-stop (with f) (c .unread5 .ensures)))
+    (λ c. let f = c .before .before .before in unfold stepOf in told-item (now f) (start f .args .t .now) (start f .args .b .now) (is f (c .before .enum-told .given .1)) (tells-stop (with f) (c .unread .ensures)))
+    (λ c. let f = c .before .before .before in unfold stepOf in told-item (now f) (start f .args .t .now) (start f .args .b .now) (is f (c .before .enum-told2 .given .1)) (tells-stop (with f) (c .unread2 .ensures)))
+    (λ c. let f = c .before .before .before in unfold stepOf in told-item (now f) (start f .args .t .now) (start f .args .b .now) (is f (c .before .enum-told3 .given .1)) (tells-stop (with f) (c .unread3 .ensures)))
+    (λ c. let f = c .before .before .before in unfold stepOf in told-item (now f) (start f .args .t .now) (start f .args .b .now) (is f (c .before .enum-told4 .given .1)) (tells-stop (with f) (c .unread4 .ensures)))
+    (λ c. let f = c .before .before .before in unfold stepOf in told-item (now f) (start f .args .t .now) (start f .args .b .now) (is f (c .before .enum-told5 .given .1)) (tells-stop (with f) (c .unread5 .ensures)))
     (λ c. search needs) (λ c. search needs) returns-6
     (λ c. search needs) (λ c. search needs) returns-7
     (λ c. search needs) (λ c. search needs) returns-8

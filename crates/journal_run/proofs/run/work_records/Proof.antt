@@ -6,13 +6,13 @@ use native.Mathlib.Omega.{arith}
 use borrow.Author.Needs.{needs}
 use lib.ListN.{length, drop, length-drop}
 use lib.Seq.{take-all}
-use Rattle.sound.specs.Pieces.{deviceWith}
-use Rattle.state_fields.specs.Pieces.{stateWith}
-use Rattle.journal_session.specs.declared.player.Player.{Player}
-use Rattle.journal_session.specs.declared.player.Turned.{Turned}
-use Rattle.journal_session.specs.Turns.{recordRoom, running, turn}
-use Rattle.journal_session.specs.Telling.{Tells}
-use Rattle.journal_step.proofs.Reading.{turn-reads}
+use Rattle.sound.specs.Assembled.{deviceWith}
+use Rattle.state_fields.specs.Assembled.{stateWith}
+use Rattle.journal_session.specs.declared.session.Session.{Session}
+use Rattle.journal_session.specs.declared.session.StepResult.{StepResult}
+use Rattle.journal_session.specs.Steps.{recordRoom, running, stepRecord}
+use Rattle.journal_session.specs.Matching.{Matches}
+use Rattle.journal_step.proofs.Reading.{step-reads}
 use Rattle.journal_run.specs.Running.{Ready, ranTo}
 use Rattle.journal_run.proofs.Playing.{Went, begins, fits-on, goes-on, stops, fills}
 use Rattle.journal_run.proofs.Running.{stays-ready}
@@ -36,10 +36,10 @@ module _ (l : tie.At-loop Inv-loop μ-loop) where
   abbrev start : tie.Start Inv-loop μ-loop
   start = l .before .before .before .before
 
-  abbrev from : Player
+  abbrev from : Session
   from = running (stateWith (start .args .settings) (start .args .listed) (start .args .live) (start .args .endpoints .now) (start .args .owners .now) (start .args .attached .now) (start .args .domains .now) (start .args .logged .now) (start .args .lost .now) (start .args .reasons .now) (start .args .flags .now) (start .args .sources .now) (start .args .addresses .now))
 
-  abbrev at : Player
+  abbrev at : Session
   at = running (stateWith (start .args .settings) (start .args .listed) (l .loop .count) (start .args .endpoints .now) (start .args .owners .now) (l .loop .attached) (l .loop .domains) (l .loop .logged) (l .loop .lost) (l .loop .reasons) (l .loop .flags) (l .loop .sources) (l .loop .addresses))
 
   abbrev went : Went from (start .args .t .now) (start .args .b .now) (start .args .out .now) at (l .loop .t) (l .loop .out) (l .loop .read) (l .loop .printed)
@@ -53,7 +53,7 @@ module _ (y : tie.After-work-record Inv-loop μ-loop) where
   abbrev b : List ℕ
   b = start l .args .b .now
 
-  abbrev next : Turned
+  abbrev next : StepResult
   next = ranTo (stateWith (start l .args .settings) (start l .args .listed) (y .work-record .result .live) (start l .args .endpoints .now) (start l .args .owners .now) (y .work-record .last .1 .1 .1 .1 .1 .0) (y .work-record .last .1 .1 .1 .1 .1 .1 .0) (y .work-record .last .1 .1 .1 .1 .1 .1 .1 .0) (y .work-record .last .1 .1 .1 .1 .1 .1 .1 .1 .0) (y .work-record .last .1 .1 .1 .1 .1 .1 .1 .1 .1 .0) (y .work-record .last .1 .1 .1 .1 .1 .1 .1 .1 .1 .1 .0) (y .work-record .last .1 .1 .1 .1 .1 .1 .1 .1 .1 .1 .1 .0) (y .work-record .last .1 .1 .1 .1 .1 .1 .1 .1 .1 .1 .1 .1 .0)) (y .work-record .result)
 
   abbrev words : List ℕ
@@ -62,11 +62,11 @@ module _ (y : tie.After-work-record Inv-loop μ-loop) where
   abbrev left : List ℕ
   left = (y .work-record .last .1 .1 .1 .1 .1 .1 .1 .1 .1 .1 .1 .1 .1 .1 .1 .0)
 
-  told : Tells next words (l .loop .out) left (l .loop .printed) (turn (at l) (l .loop .t) (drop (l .loop .read) b))
+  told : Matches next words (l .loop .out) left (l .loop .printed) (stepRecord (at l) (l .loop .t) (drop (l .loop .read) b))
   told = rw (take-all (length b - l .loop .read) (drop (l .loop .read) b) (omega (arith, length-drop (l .loop .read) b))) at (y .work-record .ensures)
 
   reads : y .work-record .result .read ≤ length b - l .loop .read
-  reads = omega (arith, told .read, turn-reads (at l) (l .loop .t) (drop (l .loop .read) b), length-drop (l .loop .read) b)
+  reads = omega (arith, told .read, step-reads (at l) (l .loop .t) (drop (l .loop .read) b), length-drop (l .loop .read) b)
 
   same-words : length words ≡ length (start l .args .t .now)
   same-words = let e : length words ≡ length (l .loop .t) = search needs in e ∙ l .loop .inv .1
@@ -78,7 +78,7 @@ module _ (y : tie.After-work-record Inv-loop μ-loop) where
   room = omega (arith, went l .same)
 
   fits : l .loop .printed + y .work-record .result .printed ≤ length (start l .args .out .now)
-  fits = fits-on (from l) (start l .args .t .now) b (start l .args .out .now) (at l) (l .loop .t) (l .loop .out) (l .loop .read) (l .loop .printed) (went l) (turn (at l) (l .loop .t) (drop (l .loop .read) b)) next words left told same-out
+  fits = fits-on (from l) (start l .args .t .now) b (start l .args .out .now) (at l) (l .loop .t) (l .loop .out) (l .loop .read) (l .loop .printed) (went l) (stepRecord (at l) (l .loop .t) (drop (l .loop .read) b)) next words left told same-out
 
 sub-loop : tie.Need-sub-loop Inv-loop μ-loop
 sub-loop c = let w = went c in omega (arith, w .same, w .fits)

@@ -3,25 +3,25 @@ use mathlib.Core.Path.{sym}
 use native.Mathlib.Omega.{arith}
 use borrow.Author.Needs.{needs}
 use Rattle.rules.specs.Sizes.{maxGuests}
-use Rattle.journal_session.specs.Turns.{turnOf}
-use Rattle.journal_session.proofs.Telling.{named-late, named-past, named-more}
+use Rattle.journal_session.specs.Steps.{stepOf}
+use Rattle.journal_session.proofs.Matching.{named-late, named-past, named-more}
 use Rattle.journal_session.proofs.named.guest.Statement.{statement}
 use Rattle.journal_session.proofs.named.guest.Tie as tie
 
 after-start : tie.Need-returns
-unfolding turnOf
+unfolding stepOf
 after-start c =
     let a = c .before .before .before .before .before .args in
-    named-late (a .p) (a .p .state .settings .guests) maxGuests (a .s .now) _ (c .before .if1 .taken) (c .idle .ensures)
+    named-late (a .p) (a .p .state .settings .guests) maxGuests (a .s .now) _ (c .before .if1 .taken) (c .unread .ensures)
 
 too-many : tie.Need-returns-2
-unfolding turnOf
+unfolding stepOf
 too-many c =
     let a = c .before .before .before .before .before .before .before .args in
-    named-past (a .p) (a .p .state .settings .guests) maxGuests (a .s .now) _ (omega arith) (c .idle2 .ensures)
+    named-past (a .p) (a .p .state .settings .guests) maxGuests (a .s .now) _ (omega arith) (c .unread2 .ensures)
 
 one-more : tie.Need-returns-3
-unfolding turnOf
+unfolding stepOf
 one-more c =
     let n = c .before .before in
     let i = n .before in

@@ -6,7 +6,7 @@ use borrow.Author.Needs.{needs}
 use lib.ListN.{replicate}
 use lib.Seq.{length-take-le}
 use Rattle.rules.specs.Sizes.{maxFaults, faultSize}
-use Rattle.journal_session.specs.Turns.{turnOf}
+use Rattle.journal_session.specs.Steps.{stepOf}
 use Rattle.journal_step.proofs.Counting.{few-bytes, take-zeros}
 use Rattle.journal_step.proofs.Calling.{early, later}
 use Rattle.journal_step.proofs.called.fetch.Statement.{statement}
@@ -22,7 +22,7 @@ into-requires c κs =
     (rw (length-take-le {A = ℕ} (faultSize * st .args .n) (replicate (faultSize * maxFaults) 0) h) h, st .pre .1)
 
 returns : tie.Need-returns-2
-unfolding turnOf
+unfolding stepOf
 returns c =
     let x = c .before .before .before in
     let i = x .before .before .before in
@@ -34,7 +34,7 @@ fetch-spec =
     tie.close
     (tie.spec
     (λ c κs. tt)
-    (λ c. unfold turnOf in early _ (c .before .if1 .taken) (c .idle .ensures))
+    (λ c. unfold stepOf in early _ (c .before .if1 .taken) (c .unread .ensures))
     (λ c. record { fits = omega (arith, c .before .before .before .before .before .pre .0) })
     (λ c. few-bytes (c .before .before .before .before .before .pre .0))
     counted

@@ -3,8 +3,8 @@ use native.Mathlib.Omega.{arith}
 use borrow.Author.Needs.{needs}
 use Rattle.journal_line_call.specs.Lines.{requestLine}
 use Rattle.journal_text.specs.Placing.{lineRoom}
-use Rattle.journal_session.specs.Turns.{turnOf}
-use Rattle.journal_step.proofs.Calling.{early, later, tells-call}
+use Rattle.journal_session.specs.Steps.{stepOf}
+use Rattle.journal_step.proofs.Calling.{early, later, matches-call}
 use Rattle.journal_step.proofs.called.request.Statement.{statement}
 use Rattle.journal_step.proofs.called.request.Tie as tie
 
@@ -13,7 +13,7 @@ sub-request : tie.Need-sub-request
 sub-request c = let st = c .before .before .before .before .before .before .before in omega (arith, c .before .size-of .ensures, st .pre .0 .1)
 
 returns : tie.Need-returns-2
-unfolding turnOf
+unfolding stepOf
 returns c =
     let k = c .before .before .before in
     let x = k .before .before .before .before .before .before in
@@ -21,14 +21,14 @@ returns c =
     let i = z .before in
     let st = i .before .before .before .before .before in
     later (st .args .p) _ (i .if1 .left)
-    (tells-call lineRoom (st .args .s .now) _ (λ r. requestLine (r .answer) (r .buffer)) (omega (arith, st .pre .1)) (rw (z .size-of .ensures) at (x .request .ensures)) (k .put-request .ensures) (c .finished .ensures))
+    (matches-call lineRoom (st .args .s .now) _ (λ r. requestLine (r .answer) (r .buffer)) (omega (arith, st .pre .1)) (rw (z .size-of .ensures) at (x .request .ensures)) (k .put-request .ensures) (c .finished .ensures))
 
 pub request-spec : {M : Type 1} → statement M
 request-spec =
     tie.close
     (tie.spec
     (λ c κs. tt)
-    (λ c. unfold turnOf in early _ (c .before .if1 .taken) (c .idle .ensures))
+    (λ c. unfold stepOf in early _ (c .before .if1 .taken) (c .unread .ensures))
     (λ c κs. tt)
     sub-request
     sub-request

@@ -6,7 +6,7 @@ use borrow.Author.Needs.{needs}
 use Rattle.rules.specs.declared.Refusal.{Refusal}
 use Rattle.rules.specs.State.{Device}
 use Rattle.sound.specs.declared.checking.Checked.the-variants.{Passed, Refused}
-use Rattle.sound.specs.Pieces.{deviceWith}
+use Rattle.sound.specs.Assembled.{deviceWith}
 use Rattle.sound.proofs.Checks.{checks-number, checks-soundness, checks-pass}
 use Rattle.sound.proofs.checking.check_job.Statement.{statement}
 use Rattle.sound.proofs.checking.check_job.Tie as tie

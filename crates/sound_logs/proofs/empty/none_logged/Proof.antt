@@ -5,7 +5,7 @@ use Prim.Native.Nat.{_-_}
 use mathlib.Core.Path.{refl}
 use lib.Dec.{eqb}
 use lib.ListN.{getD}
-use Rattle.laws.proofs.Turns.{Tested, tested-none, tested-next, tested-all}
+use Rattle.laws.proofs.Rounds.{Tested, tested-none, tested-next, tested-all}
 use Rattle.rules.specs.Sizes.{maxGuests}
 use Rattle.sound_logs.proofs.empty.none_logged.Statement.{statement}
 use Rattle.sound_logs.proofs.empty.none_logged.Tie as tie

@@ -6,10 +6,10 @@ use mathlib.Core.Path.{refl}
 use mathlib.Core.Bool.{_&&_}
 use lib.Dec.{eqb}
 use lib.ListN.{getD}
-use Rattle.laws.proofs.Turns.{Tested, tested-none, tested-next, tested-all}
+use Rattle.laws.proofs.Rounds.{Tested, tested-none, tested-next, tested-all}
 use Rattle.rules.specs.Sound.{faultZero}
 use Rattle.sound_logs.specs.Faults.{faultIn}
-use Rattle.sound_logs.proofs.NoFaults.{zero-turn}
+use Rattle.sound_logs.proofs.NoFaults.{zero-round}
 use Rattle.sound_logs.proofs.empty.zero_places.Statement.{statement}
 use Rattle.sound_logs.proofs.empty.zero_places.Tie as tie
 
@@ -29,7 +29,7 @@ loop-again c =
     let i = a .first + l .j in
     rw (
       w .wide .ensures,
-      zero-turn (getD (a .reasons .now) i 0) (getD (a .flags .now) i 0) (getD (a .sources .now) i 0) (getD (a .addresses .now) i 0) (l .narrow) (l .broad),
+      zero-round (getD (a .reasons .now) i 0) (getD (a .flags .now) i 0) (getD (a .sources .now) i 0) (getD (a .addresses .now) i 0) (l .narrow) (l .broad),
     )
     (tested-next (a .n) (λ k. faultZero (faultIn (a .reasons .now) (a .flags .now) (a .sources .now) (a .addresses .now) (a .first + k))) (eqb (l .narrow) 0 && eqb (l .broad) 0) _ (l .j) (l .inv) (omega arith) refl)
 

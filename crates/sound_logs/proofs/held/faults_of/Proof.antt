@@ -3,7 +3,7 @@ use native.Mathlib.Omega.{arith}
 use borrow.Author.Needs.{needs}
 use Prim.Native.Nat.{_+_, _-_}
 use Rattle.laws.specs.Lists.{pickBy}
-use Rattle.laws.proofs.Turns.{Tested, tested-none, tested-next, tested-all}
+use Rattle.laws.proofs.Rounds.{Tested, tested-none, tested-next, tested-all}
 use Rattle.rules.specs.Sound.{faultGood}
 use Rattle.sound_logs.specs.Faults.{endpointsAlone, faultIn}
 use Rattle.sound_logs.proofs.held.faults_of.Statement.{statement}

@@ -2,7 +2,7 @@
 use native.Mathlib.Omega.{arith}
 use borrow.Author.Needs.{needs}
 use Prim.Native.Nat.{_-_}
-use Rattle.laws.proofs.Turns.{Tested, tested-none, tested-next, tested-all}
+use Rattle.laws.proofs.Rounds.{Tested, tested-none, tested-next, tested-all}
 use Rattle.rules.specs.Sizes.{maxEndpoints}
 use Rattle.sound_places.specs.Places.{endpointPlace}
 use Rattle.sound_places.proofs.endpoints.endpoints_good.Statement.{statement}

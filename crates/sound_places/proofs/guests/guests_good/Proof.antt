@@ -4,7 +4,7 @@ use borrow.Author.Needs.{needs}
 use Prim.Native.Nat.{_-_}
 use lib.Dec.{ltb}
 use lib.ListN.{getD}
-use Rattle.laws.proofs.Turns.{Tested, tested-none, tested-next, tested-all}
+use Rattle.laws.proofs.Rounds.{Tested, tested-none, tested-next, tested-all}
 use Rattle.rules.specs.Sizes.{maxGuests}
 use Rattle.sound_places.specs.Places.{guestGood}
 use Rattle.sound_places.proofs.guests.guests_good.Statement.{statement}

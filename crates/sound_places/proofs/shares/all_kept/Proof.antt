@@ -5,7 +5,7 @@ use Prim.Native.Nat.{_-_}
 use mathlib.Core.Path.{refl}
 use lib.Dec.{leb}
 use lib.ListN.{getD}
-use Rattle.laws.proofs.Turns.{Tested, tested-none, tested-next, tested-all}
+use Rattle.laws.proofs.Rounds.{Tested, tested-none, tested-next, tested-all}
 use Rattle.sound_places.proofs.shares.all_kept.Statement.{statement}
 use Rattle.sound_places.proofs.shares.all_kept.Tie as tie
 

@@ -5,7 +5,7 @@ use Prim.Native.Nat.{_≤_, _-_, min}
 use mathlib.Core.Path.{_≡_, sym}
 use lib.ListN.{length}
 use Rattle.state_endpoints.specs.Search.{anyBelow, belongs}
-use Rattle.state_endpoints.proofs.Searching.{any-zero, any-turn}
+use Rattle.state_endpoints.proofs.Searching.{any-zero, any-round}
 use Rattle.state_endpoints.proofs.search.domain_exists.Statement.{statement}
 use Rattle.state_endpoints.proofs.search.domain_exists.Tie as tie
 
@@ -26,7 +26,7 @@ loop-again c =
     let s = c .before .before .before .before in
     let a = s .before .before .before .before .before .before .args in
     let q = belongs (a .owners .now) (a .attached .now) (a .domains .now) (a .g) (a .d) in
-    (omega arith, s .loop .inv .1, s .loop .inv .2, s .loop .inv .3, rw (any-turn (s .loop .i) q, ← s .loop .inv .4))
+    (omega arith, s .loop .inv .1, s .loop .inv .2, s .loop .inv .3, rw (any-round (s .loop .i) q, ← s .loop .inv .4))
 
 returns : tie.Need-returns Inv-loop μ-loop
 returns c =

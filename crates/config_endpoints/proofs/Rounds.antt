@@ -7,7 +7,7 @@ use native.Mathlib.Nat.{zero-min, min-zero, suc-min-suc}
 use lib.ListN.{length, getD, take, drop, drop-of-length-le}
 use lib.Seq.{length-take-le, getD-take}
 use Rattle.laws.specs.Lists.{all?, pairwise}
-use Rattle.laws.proofs.Turns.{drop-next}
+use Rattle.laws.proofs.Rounds.{drop-next}
 
 -- no more are taken than there are
 pub take-least : {A : Type 0} (n : ℕ) (xs : List A) → take (min n (length xs)) xs ≡ take n xs
@@ -23,15 +23,15 @@ module _ (xs : List ℕ) (n : ℕ) (fits : n ≤ length xs) (i : ℕ) (ok : Bool
   none : n ≤ i → drop i (take n xs) ≡ []
   none h = drop-of-length-le (take n xs) {i = i} (rw (length-take-le n xs fits) h)
 
-  pub all-turn : (q : ℕ → Bool) → i < n → (ok && all? q (drop i (take n xs))) ≡ ((ok && q (getD xs i 0)) && all? q (drop (i + 1) (take n xs)))
-  all-turn q h = rw (next h) (sym (and-assoc ok _ _))
+  pub all-round : (q : ℕ → Bool) → i < n → (ok && all? q (drop i (take n xs))) ≡ ((ok && q (getD xs i 0)) && all? q (drop (i + 1) (take n xs)))
+  all-round q h = rw (next h) (sym (and-assoc ok _ _))
 
   pub all-left : (q : ℕ → Bool) → n ≤ i → (ok && all? q (drop i (take n xs))) ≡ ok
   all-left q h = rw (none h) (and-true ok)
 
-  pub pairs-turn : (q : ℕ → ℕ → Bool) → i < n
+  pub pairs-round : (q : ℕ → ℕ → Bool) → i < n
       → (ok && pairwise q (drop i (take n xs))) ≡ ((ok && all? (q (getD xs i 0)) (drop (i + 1) (take n xs))) && pairwise q (drop (i + 1) (take n xs)))
-  pairs-turn q h = rw (next h) (sym (and-assoc ok _ _))
+  pairs-round q h = rw (next h) (sym (and-assoc ok _ _))
 
   pub pairs-left : (q : ℕ → ℕ → Bool) → n ≤ i → (ok && pairwise q (drop i (take n xs))) ≡ ok
   pairs-left q h = rw (none h) (and-true ok)

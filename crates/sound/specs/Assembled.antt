@@ -6,7 +6,7 @@ use Rattle.laws.specs.Lists.{every?}
 use Rattle.rules.specs.declared.Settings.{Settings}
 use Rattle.rules.specs.State.{Device}
 use Rattle.rules.specs.Sound.{frameTests}
-use Rattle.state_fields.specs.Pieces.{stateWith}
+use Rattle.state_fields.specs.Assembled.{stateWith}
 
 -- state and table of these pieces
 abbrev pub deviceWith : Settings → ℕ → ℕ → List ℕ → List ℕ → List ℕ → List ℕ → List ℕ → List ℕ → List ℕ → List ℕ → List ℕ → List ℕ → List ℕ → Device

@@ -9,19 +9,19 @@ use borrow.Author.Needs.{needs}
 use borrow.Author.Tests.{leb-true, not-true, not-false}
 use Rattle.journal_records.specs.declared.Item.{Item}
 use Rattle.journal_records.specs.Items.{front}
-use Rattle.journal_session.specs.declared.player.Turned.{Turned}
-use Rattle.journal_session.specs.Turns.{recordRoom, turnOf, turnIn}
-use Rattle.journal_session.specs.Telling.{Tells}
-use Rattle.journal_session.proofs.Telling.{tells-silent, tells-turn, tells-full}
+use Rattle.journal_session.specs.declared.session.StepResult.{StepResult}
+use Rattle.journal_session.specs.Steps.{recordRoom, stepOf, stepIn}
+use Rattle.journal_session.specs.Matching.{Matches}
+use Rattle.journal_session.proofs.Matching.{matches-silent, matches-step, matches-full}
 use Rattle.journal_step.proofs.Reading.{works, front-fits, asks-few}
-use Rattle.journal_step.proofs.turn.Statement.{statement}
-use Rattle.journal_step.proofs.turn.Tie as tie
+use Rattle.journal_step.proofs.step_record.Statement.{statement}
+use Rattle.journal_step.proofs.step_record.Tie as tie
 
 full : tie.Need-returns
 full c =
     let h = c .before .before in
     let a = h .before .before .before .before .args in
-    tells-full (a .p) (a .t .now) (a .s .now) (sym (h .has-room .ensures) ∙ not-true _ (c .before .if1 .taken)) (c .idle .ensures)
+    matches-full (a .p) (a .t .now) (a .s .now) (sym (h .has-room .ensures) ∙ not-true _ (c .before .if1 .taken)) (c .unread .ensures)
 
 -- where the record at the front is looked at
 module _ (f : tie.After-front) where
@@ -40,9 +40,9 @@ module _ (f : tie.After-front) where
     is = sym (f .front .ensures) ∙ e
 
     -- and what is told of its item is told of the turn
-    told : {r : Turned} {words left : List ℕ} → Tells r words (start .args .out .now) left (start .args .at) (turnOf (start .args .p) (start .args .t .now) (start .args .s .now) i)
-        → Tells r words (start .args .out .now) left (start .args .at) (turnIn (length (start .args .out .now)) (start .args .at) (start .args .p) (start .args .t .now) (start .args .s .now))
-    told h = tells-turn (start .args .p) (start .args .t .now) (start .args .s .now) tested is h
+    told : {r : StepResult} {words left : List ℕ} → Matches r words (start .args .out .now) left (start .args .at) (stepOf (start .args .p) (start .args .t .now) (start .args .s .now) i)
+        → Matches r words (start .args .out .now) left (start .args .at) (stepIn (length (start .args .out .now)) (start .args .at) (start .args .p) (start .args .t .now) (start .args .s .now))
+    told h = matches-step (start .args .p) (start .args .t .now) (start .args .s .now) tested is h
 
 request-requires : tie.Need-request-requires
 request-requires c κs =
@@ -56,8 +56,8 @@ fetch-requires c κs =
     let f = g .before .before in
     (rw (is f (g .g3 .given .1)) at (asks-few (start f .args .s .now)), room f)
 
-pub turn-spec : {M : Type 1} → statement M
-turn-spec =
+pub step-record-spec : {M : Type 1} → statement M
+step-record-spec =
     tie.close
     (tie.spec
     (λ c κs. tt)
@@ -73,8 +73,8 @@ turn-spec =
     (λ c. c .match .keys7) (λ c κs. room (c .before .before .before .before .before))
     (λ c. c .match .keys8) (λ c κs. room (c .before .before .before .before .before))
     (λ c. c .match .keys9) fetch-requires
-    (λ c. unfold turnOf in told (c .before .before .before) (c .before .enum-told .given .1) (tells-silent (c .idle2 .ensures)))
-    (λ c. unfold turnOf in told (c .before .before .before) (c .before .enum-told2 .given .1) (tells-silent (c .idle3 .ensures)))
+    (λ c. unfold stepOf in told (c .before .before .before) (c .before .enum-told .given .1) (matches-silent (c .unread2 .ensures)))
+    (λ c. unfold stepOf in told (c .before .before .before) (c .before .enum-told2 .given .1) (matches-silent (c .unread3 .ensures)))
     (λ c. let i = c .before .before in told (i .before .before) (i .f .given .1) (c .guest .ensures _ _ _))
     (λ c. let i = c .before .before in told (i .before .before) (i .e .given .1) (c .endpoint .ensures _ _ _))
     (λ c. search needs) (λ c. search needs)

@@ -7,8 +7,8 @@ use lib.ListN.{length, take, drop, getD, length-take}
 use lib.Seq.{getD-take}
 use Rattle.state_endpoints.specs.Search.{indexOf}
 use Rattle.state_endpoints.proofs.Searching.{index-here, index-past, index-none}
-use Rattle.state_endpoints.proofs.search.place_of.Statement.{statement}
-use Rattle.state_endpoints.proofs.search.place_of.Tie as tie
+use Rattle.state_endpoints.proofs.search.index_of.Statement.{statement}
+use Rattle.state_endpoints.proofs.search.index_of.Tie as tie
 
 abbrev Inv-loop : tie.InvT-loop
 Inv-loop n endpoints number i₀ at₀ i at =
@@ -48,8 +48,8 @@ returns c =
     let f = rw e at (c .before .loop .inv .3) in
     omega (arith, f)
 
-pub place-of-spec : {M : Type 1} → statement M
-place-of-spec =
+pub index-of-spec : {M : Type 1} → statement M
+index-of-spec =
     tie.close
     (tie.spec
     Inv-loop
