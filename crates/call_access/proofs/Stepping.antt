@@ -36,7 +36,7 @@ use Rattle.rules.proofs.Reading.{sound-whole}
 use Rattle.rules.proofs.Refusals.{unsound}
 use Rattle.rules.proofs.Shape.{small-count}
 use Rattle.refinement.specs.Flat.{device, ownerAt, endpointIndex, liveRecords, answerOf, decisionAt, decision, afterAccess}
-use Rattle.refinement.specs.Translating.{inWords, answered, accessWhole}
+use Rattle.refinement.specs.Translating.{inWords, translate, accessWhole}
 use Rattle.refinement.proofs.Answered.{access-step}
 
 module _ (d : Device) (h : sound d ≡ true) (k : Lengths (d .state)) (wide : (i : ℕ) → windowLast (d .state .settings) i ≤ 18446744073709551615) where
@@ -63,7 +63,7 @@ module _ (d : Device) (h : sound d ≡ true) (k : Lengths (d .state)) (wide : (i
       let v = permits-covers key x r (q .0) in
       omega (arith, v .from, v .to, leb-true (r .phys + r .end - r .start) 18446744073709551615 (q .1))
 
-  pub answer-decides : (x : Access) → answered d x ≡ decision d x
+  pub answer-decides : (x : Access) → translate d x ≡ decision d x
   unfolding decisionAt inWords answerOf
   answer-decides x = rw (le-leb (d .state .listed) maxEndpoints (small-count d h k)) (go (ltb place (d .state .listed)) (eqb (getD (d .state .attached) place 0) 1) (findMapping key x (liveRecords d)) refl)
     where
@@ -88,6 +88,6 @@ module _ (d : Device) (x : Access) (t : Bool) (i : t ≡ sound d) where
   pub access-unsound : not t ≡ true → (record { answer = Refused Unsound; buffer = [] }, d) ≡ step d (access-by x)
   access-unsound f = sym (unsound d (access-by x) refl (sym i ∙ not-true t f))
 
-  pub access-works : not t ≡ false → Lengths (d .state) → ((i : ℕ) → windowLast (d .state .settings) i ≤ 18446744073709551615) → (a : Answer) → a ≡ answered d x
+  pub access-works : not t ≡ false → Lengths (d .state) → ((i : ℕ) → windowLast (d .state .settings) i ≤ 18446744073709551615) → (a : Answer) → a ≡ translate d x
       → (record { answer = a; buffer = [] }, device (afterAccess (d .state) x a) (d .table)) ≡ step d (access-by x)
   access-works f k wide a y = rw y (access-answered d (sym i ∙ not-false t f) k wide x)

@@ -8,7 +8,6 @@ ghost use Rattle.rules.specs.Access.{flagFor, reasonOf, faultOf};
 ghost use Rattle.rules.specs.Sound.{guest};
 ghost use Rattle.state_fields.specs.Fields.{withLists, withLogs};
 ghost use Rattle.refinement.specs.Flat.{afterAccess};
-use state_log::log_fault;
 use rules::Access;
 use rules::Cause;
 use rules::Fault;
@@ -16,6 +15,7 @@ use rules::Guest;
 use rules::sizes::FAULT_PLACES;
 use rules::sizes::MAX_ENDPOINTS;
 use rules::sizes::MAX_GUESTS;
+use state_log::log_fault;
 
 // The flags of a read's fault, READ 1 and ADDRESS 256.
 const READ_FLAGS: u32 = 257;

@@ -3,7 +3,7 @@ ghost use mathlib.Core.Path.{_≡_};
 ghost use Rattle.rules.specs.declared.State.{State};
 ghost use Rattle.state_fields.specs.Fields.{withEndpoints, withLists, withLogs};
 ghost use Rattle.refinement.specs.Flat.{device, afterAccess};
-ghost use Rattle.refinement.specs.Translating.{answered};
+ghost use Rattle.refinement.specs.Translating.{translate};
 use crate::blocked::report_fault;
 use crate::translating::translate;
 use rules::Access;
@@ -29,7 +29,7 @@ pub fn make_access<'a>(
     t: &'a [u64],
     a: Access,
 ) -> Answer
-    ensures { λ r. ⌜ ((s : State) → r ≡ answered (device (withEndpoints listed (now (endpoints .entry)) (now (owners .entry)) (now (attached .entry)) (now (domains .entry)) live s) (now (t .entry))) a) ⌝ }
+    ensures { λ r. ⌜ ((s : State) → r ≡ translate (device (withEndpoints listed (now (endpoints .entry)) (now (owners .entry)) (now (attached .entry)) (now (domains .entry)) live s) (now (t .entry))) a) ⌝ }
     ensures { λ r. ⌜ ((s : State) → withLists listed (now (endpoints .entry)) (now (owners .entry)) (withLogs (now (logged .exit)) (now (lost .exit)) (now (reasons .exit)) (now (flags .exit)) (now (sources .exit)) (now (addresses .exit)) s) ≡ afterAccess (withLists listed (now (endpoints .entry)) (now (owners .entry)) (withLogs (now (logged .entry)) (now (lost .entry)) (now (reasons .entry)) (now (flags .entry)) (now (sources .entry)) (now (addresses .entry)) s)) a r) ⌝ }
 {
     let answer = translate(listed, live, endpoints, owners, attached, domains, t, a);

@@ -8,9 +8,7 @@ ghost use Rattle.rules.specs.Table.{records};
 ghost use Rattle.rules.specs.Access.{findMapping};
 ghost use Rattle.state_fields.specs.Fields.{withEndpoints};
 ghost use Rattle.refinement.specs.Flat.{device, answerOf};
-ghost use Rattle.refinement.specs.Translating.{inWords, answered};
-use table_lookup::Found;
-use table_record::key_of;
+ghost use Rattle.refinement.specs.Translating.{inWords, translate};
 use rules::Access;
 use rules::Answer;
 use rules::Cause;
@@ -19,6 +17,8 @@ use rules::Guest;
 use rules::Refusal;
 use rules::sizes::MAX_ENDPOINTS;
 use rules::sizes::TOP_ADDRESS;
+use table_lookup::Found;
+use table_record::key_of;
 
 // The answer of an access that lies so far into a record; a record that leads past the last address is none of a sound table.
 fn landing(offset: u64, phys: u64) -> Answer
@@ -51,7 +51,7 @@ pub fn translate<'a>(
     t: &'a [u64],
     a: Access,
 ) -> Answer
-    ensures { λ r. ⌜ ((s : State) → r ≡ answered (device (withEndpoints listed (now (endpoints .entry)) (now (owners .entry)) (now (attached .entry)) (now (domains .entry)) live s) (now (t .entry))) a) ⌝ }
+    ensures { λ r. ⌜ ((s : State) → r ≡ translate (device (withEndpoints listed (now (endpoints .entry)) (now (owners .entry)) (now (attached .entry)) (now (domains .entry)) live s) (now (t .entry))) a) ⌝ }
 {
     if MAX_ENDPOINTS < listed {
         return Answer::Refused(Refusal::Unsound);

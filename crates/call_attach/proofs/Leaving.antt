@@ -11,13 +11,13 @@ use Rattle.rules.specs.declared.State.{State}
 use Rattle.rules.specs.Sizes.{topAddress}
 use Rattle.rules.specs.Table.{keyOf}
 use Rattle.state_endpoints.specs.Changes.{attachedAt}
-use Rattle.refinement.specs.Flat.{device, existsFlat, removed, left, entered, moved, noDomain}
+use Rattle.refinement.specs.Flat.{device, domainExists, removed, left, entered, moved, noDomain}
 
-pub left-stays : (s t : State) (ws : List ℕ) (g : Guest) (i : ℕ) (d : Domain) (b : Bool) → t ≡ attachedAt s i 0 noDomain → b ≡ existsFlat t g d → b ≡ true → device t ws ≡ left (device s ws) g i d
+pub left-stays : (s t : State) (ws : List ℕ) (g : Guest) (i : ℕ) (d : Domain) (b : Bool) → t ≡ attachedAt s i 0 noDomain → b ≡ domainExists t g d → b ≡ true → device t ws ≡ left (device s ws) g i d
 unfolding left
 left-stays s t ws g i d b e f h = rw (sym e, sym f, h)
 
-pub left-goes : (s t r : State) (ws vs : List ℕ) (g : Guest) (i : ℕ) (d : Domain) (b : Bool) (key : ℕ) → t ≡ attachedAt s i 0 noDomain → b ≡ existsFlat t g d → b ≡ false → key ≡ keyOf g d
+pub left-goes : (s t r : State) (ws vs : List ℕ) (g : Guest) (i : ℕ) (d : Domain) (b : Bool) (key : ℕ) → t ≡ attachedAt s i 0 noDomain → b ≡ domainExists t g d → b ≡ false → key ≡ keyOf g d
     → device r vs ≡ removed (device t ws) key key 0 topAddress → device r vs ≡ left (device s ws) g i d
 unfolding left
 left-goes s t r ws vs g i d b key e f h k x = x ∙ rw (sym e, sym f, h, k)

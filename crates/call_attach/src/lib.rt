@@ -8,7 +8,8 @@ ghost use lib.ListN.{getD};
 ghost use Rattle.rules.specs.Handlers.{statusOf, outside, attachChain, detachChain};
 ghost use Rattle.rules.specs.declared.State.{State};
 ghost use Rattle.state_fields.specs.Fields.{withSettings, withLists, withEndpoints};
-ghost use Rattle.refinement.specs.Flat.{device, withStatus, attachStatus, attachFlat, detachStatus, detachFlat};
+ghost use Rattle.refinement.specs.Flat.{device, withStatus, attachStatus, detachStatus};
+ghost use Rattle.refinement.specs.Flat as flat;
 use refinement::HandlerResult;
 use rules::Domain;
 use rules::DomainRange;
@@ -86,7 +87,7 @@ pub fn handle_attach<'a>(
     e: Endpoint,
     reserved: u64,
 ) -> HandlerResult
-    ensures { λ r. ⌜ ((s : State) → withStatus (r .status) (device (withSettings settings (withEndpoints listed (now (endpoints .entry)) (now (owners .entry)) (now (attached .exit)) (now (domains .exit)) (r .live) s)) (now (t .exit))) ≡ attachFlat (device (withSettings settings (withEndpoints listed (now (endpoints .entry)) (now (owners .entry)) (now (attached .entry)) (now (domains .entry)) live s)) (now (t .entry))) g d e reserved) ⌝ }
+    ensures { λ r. ⌜ ((s : State) → withStatus (r .status) (device (withSettings settings (withEndpoints listed (now (endpoints .entry)) (now (owners .entry)) (now (attached .exit)) (now (domains .exit)) (r .live) s)) (now (t .exit))) ≡ flat.handleAttach (device (withSettings settings (withEndpoints listed (now (endpoints .entry)) (now (owners .entry)) (now (attached .entry)) (now (domains .entry)) live s)) (now (t .entry))) g d e reserved) ⌝ }
 {
     let i = state_endpoints::index_of(listed, endpoints, e);
     let status = attach_status(settings, listed, owners, g, d, i, reserved);
@@ -162,7 +163,7 @@ pub fn handle_detach<'a>(
     e: Endpoint,
     reserved: u64,
 ) -> HandlerResult
-    ensures { λ r. ⌜ ((s : State) → withStatus (r .status) (device (withEndpoints listed (now (endpoints .entry)) (now (owners .entry)) (now (attached .exit)) (now (domains .exit)) (r .live) s) (now (t .exit))) ≡ detachFlat (device (withEndpoints listed (now (endpoints .entry)) (now (owners .entry)) (now (attached .entry)) (now (domains .entry)) live s) (now (t .entry))) g d e reserved) ⌝ }
+    ensures { λ r. ⌜ ((s : State) → withStatus (r .status) (device (withEndpoints listed (now (endpoints .entry)) (now (owners .entry)) (now (attached .exit)) (now (domains .exit)) (r .live) s) (now (t .exit))) ≡ flat.handleDetach (device (withEndpoints listed (now (endpoints .entry)) (now (owners .entry)) (now (attached .entry)) (now (domains .entry)) live s) (now (t .entry))) g d e reserved) ⌝ }
 {
     let i = state_endpoints::index_of(listed, endpoints, e);
     let status = detach_status(listed, owners, attached, domains, g, d, i, reserved);

@@ -2,7 +2,7 @@
 ghost use mathlib.Core.Path.{_≡_};
 ghost use Rattle.rules.specs.declared.State.{State};
 ghost use Rattle.state_fields.specs.Fields.{withDomains};
-ghost use Rattle.refinement.specs.Flat.{device, existsFlat, left, moved};
+ghost use Rattle.refinement.specs.Flat.{device, domainExists, left, moved};
 use rules::Domain;
 use rules::Guest;
 use rules::sizes::MAX_ENDPOINTS;
@@ -16,7 +16,7 @@ fn exists<'a>(
     g: Guest,
     d: Domain,
 ) -> bool
-    ensures { λ r. ⌜ ((s : State) → r ≡ existsFlat (withDomains (now (owners .entry)) (now (attached .entry)) (now (domains .entry)) (s .live) s) g d) ⌝ }
+    ensures { λ r. ⌜ ((s : State) → r ≡ domainExists (withDomains (now (owners .entry)) (now (attached .entry)) (now (domains .entry)) (s .live) s) g d) ⌝ }
 {
     state_endpoints::domain_exists(owners, attached, domains, g, d)
 }

@@ -11,24 +11,24 @@ use Rattle.rules.specs.declared.Refusal.the-variants.{NoSuchGuest, Unsound}
 use Rattle.rules.specs.Sizes.{maxGuests, maxFaults}
 use Rattle.state_log.specs.Dropped.{faultsDropped}
 use Rattle.refinement.specs.Flat.{fetchCount, fetchBytes}
-use Rattle.refinement.specs.Fetching.{fetched, unfetched, fetchFlat}
+use Rattle.refinement.specs.Fetching.{fetched, unfetched, fetchFaults}
 
 module _ (guests : ℕ) (s : State) (g : Guest) (b : List ℕ) where
-  pub fetch-of-none : guests ≤ g .0 → (record { answer = Refused NoSuchGuest; buffer = b }, s) ≡ fetchFlat guests s g b
-  unfolding fetchFlat unfetched
+  pub fetch-of-none : guests ≤ g .0 → (record { answer = Refused NoSuchGuest; buffer = b }, s) ≡ fetchFaults guests s g b
+  unfolding fetchFaults unfetched
   fetch-of-none h = rw (le-ltb (g .0) guests h)
 
   module _ (below : g .0 < guests) where
-    pub fetch-no-log : maxGuests ≤ g .0 → (record { answer = Refused Unsound; buffer = b }, s) ≡ fetchFlat guests s g b
-    unfolding fetchFlat unfetched
+    pub fetch-no-log : maxGuests ≤ g .0 → (record { answer = Refused Unsound; buffer = b }, s) ≡ fetchFaults guests s g b
+    unfolding fetchFaults unfetched
     fetch-no-log h = rw (lt-ltb (g .0) guests below, le-ltb (g .0) maxGuests h)
 
     module _ (there : g .0 < maxGuests) where
-      pub fetch-log-past : maxFaults < getD (s .logged) (g .0) 0 → (record { answer = Refused Unsound; buffer = b }, s) ≡ fetchFlat guests s g b
-      unfolding fetchFlat unfetched
+      pub fetch-log-past : maxFaults < getD (s .logged) (g .0) 0 → (record { answer = Refused Unsound; buffer = b }, s) ≡ fetchFaults guests s g b
+      unfolding fetchFaults unfetched
       fetch-log-past h = rw (lt-ltb (g .0) guests below, lt-ltb (g .0) maxGuests there, lt-leb (getD (s .logged) (g .0) 0) maxFaults h)
 
       pub fetch-gives : getD (s .logged) (g .0) 0 ≤ maxFaults → (n : ℕ) (c : List ℕ) (r : State) → n ≡ fetchCount s g (length b) → c ≡ fetchBytes s g n b → r ≡ faultsDropped s g n
-          → (record { answer = Fetched n; buffer = c }, r) ≡ fetchFlat guests s g b
-      unfolding fetchFlat fetched
+          → (record { answer = Fetched n; buffer = c }, r) ≡ fetchFaults guests s g b
+      unfolding fetchFaults fetched
       fetch-gives h n c r x y z = rw (lt-ltb (g .0) guests below, lt-ltb (g .0) maxGuests there, le-leb (getD (s .logged) (g .0) 0) maxFaults h, y, z, x)

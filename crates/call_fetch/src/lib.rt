@@ -6,7 +6,7 @@ ghost use Rattle.rules.specs.Device as rules;
 ghost use Rattle.rules.specs.declared.State as declared;
 ghost use Rattle.state_fields.specs.Fields.{withLogs};
 ghost use Rattle.refinement.specs.Flat.{device};
-ghost use Rattle.refinement.specs.Fetching.{fetchFlat};
+ghost use Rattle.refinement.specs.Fetching.{fetchFaults};
 ghost use Rattle.refinement.specs.Replied.{replied};
 use refinement::CallResult;
 use rules::Answer;
@@ -32,7 +32,7 @@ pub fn fetch_faults<'a>(
     g: Guest,
     buffer: &'a mut [u8],
 ) -> Answer
-    ensures { λ r. ⌜ ((s : declared.State) → (record { answer = r; buffer = now (buffer .exit) }, withLogs (now (logged .exit)) (s .lost) (now (reasons .exit)) (now (flags .exit)) (now (sources .exit)) (now (addresses .exit)) s) ≡ fetchFlat guests (withLogs (now (logged .entry)) (s .lost) (now (reasons .entry)) (now (flags .entry)) (now (sources .entry)) (now (addresses .entry)) s) g (now (buffer .entry))) ⌝ }
+    ensures { λ r. ⌜ ((s : declared.State) → (record { answer = r; buffer = now (buffer .exit) }, withLogs (now (logged .exit)) (s .lost) (now (reasons .exit)) (now (flags .exit)) (now (sources .exit)) (now (addresses .exit)) s) ≡ fetchFaults guests (withLogs (now (logged .entry)) (s .lost) (now (reasons .entry)) (now (flags .entry)) (now (sources .entry)) (now (addresses .entry)) s) g (now (buffer .entry))) ⌝ }
 {
     let guest = g.0 as usize;
     if guests <= guest {

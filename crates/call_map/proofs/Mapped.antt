@@ -15,7 +15,8 @@ use Rattle.rules.specs.declared.Mapping.{Mapping}
 use Rattle.rules.specs.Requests.{DEVERR}
 use Rattle.table_insert.specs.Inserted.{insertedWords}
 use Rattle.state_fields.specs.Fields.{withLive}
-use Rattle.refinement.specs.Flat.{device, withStatus, inserted, mapStatus, mapFlat, mapPlaced}
+use Rattle.refinement.specs.Flat.{device, withStatus, inserted, mapStatus, mapCounted}
+use Rattle.refinement.specs.Flat as flat
 use Rattle.refinement.proofs.Rounds.{settled-fails, settled-works}
 
 -- the guest and one record more have places
@@ -23,15 +24,15 @@ pub places : (g : Guest) (live : ℕ) → (ltb (g .0) maxGuests && ltb live topA
 places g live h = (ltb-true (g .0) maxGuests (both-left (ltb (g .0) maxGuests) _ h), ltb-true live topAddress (both-right (ltb (g .0) maxGuests) _ h))
 
 module _ (s : State) (ws : List ℕ) (g : Guest) (d : Domain) (r : Mapping) where
-  pub map-unplaced : (ltb (g .0) maxGuests && ltb (s .live) topAddress) ≡ false → withStatus DEVERR (device s ws) ≡ mapPlaced (device s ws) g d r
-  unfolding mapPlaced
+  pub map-unplaced : (ltb (g .0) maxGuests && ltb (s .live) topAddress) ≡ false → withStatus DEVERR (device s ws) ≡ flat.handleMap (device s ws) g d r
+  unfolding flat.handleMap
   map-unplaced h = rw h
 
   module _ (h : (ltb (g .0) maxGuests && ltb (s .live) topAddress) ≡ true) (x : ℕ) (e : x ≡ mapStatus (device s ws) g d r) where
-    pub map-refused : (x ≡ 0 → ⊥) → withStatus x (device s ws) ≡ mapPlaced (device s ws) g d r
-    unfolding mapPlaced mapFlat
+    pub map-refused : (x ≡ 0 → ⊥) → withStatus x (device s ws) ≡ flat.handleMap (device s ws) g d r
+    unfolding flat.handleMap mapCounted
     map-refused n = rw h (settled-fails x _ (device s ws) _ e n)
 
-    pub map-done : (vs : List ℕ) → x ≡ 0 → vs ≡ insertedWords (s .live) r ws → withStatus 0 (device (withLive (s .live + 1) s) vs) ≡ mapPlaced (device s ws) g d r
-    unfolding mapPlaced mapFlat inserted
+    pub map-done : (vs : List ℕ) → x ≡ 0 → vs ≡ insertedWords (s .live) r ws → withStatus 0 (device (withLive (s .live + 1) s) vs) ≡ flat.handleMap (device s ws) g d r
+    unfolding flat.handleMap mapCounted inserted
     map-done vs z f = rw h (settled-works x _ (device s ws) _ (device (withLive (s .live + 1) s) vs) e z (rw (f, add-one)))

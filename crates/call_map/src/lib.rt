@@ -6,9 +6,10 @@ ghost use Rattle.rules.specs.Sizes.{maxGuests};
 ghost use Rattle.rules.specs.Handlers.{statusOf, mapChain};
 ghost use Rattle.rules.specs.declared.State.{State};
 ghost use Rattle.state_fields.specs.Fields.{withSettings, withDomains};
-ghost use Rattle.refinement.specs.Flat.{device, withStatus, mapStatus, mapPlaced};
-use refinement::HandlerResult;
+ghost use Rattle.refinement.specs.Flat.{device, withStatus, mapStatus};
+ghost use Rattle.refinement.specs.Flat as flat;
 use map_steps::form_status;
+use refinement::HandlerResult;
 use rules::Domain;
 use rules::Guest;
 use rules::Mapping;
@@ -89,7 +90,7 @@ pub fn handle_map<'a>(
     d: Domain,
     r: Mapping,
 ) -> HandlerResult
-    ensures { λ x. ⌜ ((s : State) → withStatus (x .status) (device (withSettings settings (withDomains (now (owners .entry)) (now (attached .entry)) (now (domains .entry)) (x .live) s)) (now (t .exit))) ≡ mapPlaced (device (withSettings settings (withDomains (now (owners .entry)) (now (attached .entry)) (now (domains .entry)) live s)) (now (t .entry))) g d r) ⌝ }
+    ensures { λ x. ⌜ ((s : State) → withStatus (x .status) (device (withSettings settings (withDomains (now (owners .entry)) (now (attached .entry)) (now (domains .entry)) (x .live) s)) (now (t .exit))) ≡ flat.handleMap (device (withSettings settings (withDomains (now (owners .entry)) (now (attached .entry)) (now (domains .entry)) live s)) (now (t .entry))) g d r) ⌝ }
 {
     if !((g.0 < GUEST_PLACES) & (live < usize::MAX)) {
         return HandlerResult {

@@ -24,7 +24,8 @@ use Rattle.wire_requests.specs.declared.request.Request.the-variants as Q
 use Rattle.wire_requests.specs.Parsed.{mapFields, unmapFields, asked, unless, parsed}
 use Rattle.wire_requests.proofs.request.Request as request-type
 use Rattle.refinement.specs.Flat.{StatusAndDevice, withStatus}
-use Rattle.refinement.specs.Requesting.{handled, refusedFlat, servedFlat, unlessRefused, requestFlat}
+use Rattle.refinement.specs.Requesting.{refusedRequest, served, unlessRefused, serve}
+use Rattle.refinement.specs.Requesting as requesting
 
 abbrev pub handled-tags : List ℕ
 handled-tags = 1 ∷ 2 ∷ 3 ∷ 4 ∷ []
@@ -69,20 +70,20 @@ four-bytes r n e =
 
 -- by the guest's number, the request as parsed, and what its handler gives
 module _ (d : Device) (g : Guest) (r b : List ℕ) where
-  pub serve-number : d .state .settings .guests ≤ g .0 → refusedFlat d b NoSuchGuest ≡ requestFlat d g r b
-  unfolding requestFlat
+  pub serve-number : d .state .settings .guests ≤ g .0 → refusedRequest d b NoSuchGuest ≡ serve d g r b
+  unfolding serve
   serve-number h = rw (le-ltb (g .0) (d .state .settings .guests) h)
 
   module _ (l : g .0 < d .state .settings .guests) (q : Request) (e : q ≡ parsed r (length b)) where
-    pub serve-refused : (a : Refusal) → q ≡ Q.Refused a → refusedFlat d b a ≡ requestFlat d g r b
-    unfolding requestFlat unlessRefused
+    pub serve-refused : (a : Refusal) → q ≡ Q.Refused a → refusedRequest d b a ≡ serve d g r b
+    unfolding serve unlessRefused
     serve-refused a f = rw (lt-ltb (g .0) (d .state .settings .guests) l, parsed-refused q r (length b) a e f)
 
-    pub serve-works : (st : ℕ) (n : Device) (c : List ℕ) → OneOf handled-tags (tagOf request-type.the-type q) → withStatus st n ≡ handled d g q → c ≡ cond (eqb (length b) 4) (st ∷ 0 ∷ 0 ∷ 0 ∷ []) b
-        → (record { answer = Served 4; buffer = c }, n) ≡ requestFlat d g r b
-    unfolding requestFlat unlessRefused
+    pub serve-works : (st : ℕ) (n : Device) (c : List ℕ) → OneOf handled-tags (tagOf request-type.the-type q) → withStatus st n ≡ requesting.handle d g q → c ≡ cond (eqb (length b) 4) (st ∷ 0 ∷ 0 ∷ 0 ∷ []) b
+        → (record { answer = Served 4; buffer = c }, n) ≡ serve d g r b
+    unfolding serve unlessRefused
     serve-works st n c h x y =
         let p = parsed-handled q r (length b) e h in
         let four = four-bytes r (length b) (p .0) in
-        let done : withStatus st n ≡ handled d g (asked r) = x ∙ ap (λ (z : Request). handled d g z) (p .1) in
-        rw (lt-ltb (g .0) (d .state .settings .guests) l, p .0, y, four) (ap (λ (z : StatusAndDevice). servedFlat z) done)
+        let done : withStatus st n ≡ requesting.handle d g (asked r) = x ∙ ap (λ (z : Request). requesting.handle d g z) (p .1) in
+        rw (lt-ltb (g .0) (d .state .settings .guests) l, p .0, y, four) (ap (λ (z : StatusAndDevice). served z) done)

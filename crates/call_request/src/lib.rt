@@ -4,12 +4,12 @@ ghost use Rattle.rules.specs.declared.State.{State};
 ghost use Rattle.rules.specs.Device as rules;
 ghost use Rattle.state_fields.specs.Fields.{withSettings, withEndpoints};
 ghost use Rattle.refinement.specs.Flat.{device, withStatus};
-ghost use Rattle.refinement.specs.Requesting.{handled, requestFlat};
+ghost use Rattle.refinement.specs.Requesting.{serve};
+ghost use Rattle.refinement.specs.Requesting as requesting;
 ghost use Rattle.refinement.specs.Replied.{replied};
 use refinement::CallResult;
 use refinement::HandlerResult;
 use refinement::LentResult;
-use wire_requests::request::Request;
 use rules::Answer;
 use rules::Guest;
 use rules::Mapping;
@@ -20,6 +20,7 @@ use rules::requests::DEVERR;
 use rules::sizes::MAX_ENDPOINTS;
 use rules::sizes::STATUS_SIZE;
 use sound::Checked;
+use wire_requests::request::Request;
 
 // What the handler of a request's type gives; a refused request has none.
 fn handle<'a>(
@@ -34,7 +35,7 @@ fn handle<'a>(
     g: Guest,
     q: Request,
 ) -> HandlerResult
-    ensures { λ r. ⌜ ((s : State) → withStatus (r .status) (device (withSettings settings (withEndpoints listed (now (endpoints .entry)) (now (owners .entry)) (now (attached .exit)) (now (domains .exit)) (r .live) s)) (now (t .exit))) ≡ handled (device (withSettings settings (withEndpoints listed (now (endpoints .entry)) (now (owners .entry)) (now (attached .entry)) (now (domains .entry)) live s)) (now (t .entry))) g q) ⌝ }
+    ensures { λ r. ⌜ ((s : State) → withStatus (r .status) (device (withSettings settings (withEndpoints listed (now (endpoints .entry)) (now (owners .entry)) (now (attached .exit)) (now (domains .exit)) (r .live) s)) (now (t .exit))) ≡ requesting.handle (device (withSettings settings (withEndpoints listed (now (endpoints .entry)) (now (owners .entry)) (now (attached .entry)) (now (domains .entry)) live s)) (now (t .entry))) g q) ⌝ }
 {
     match q {
         Request::Refused(_) => HandlerResult {
@@ -113,7 +114,7 @@ pub fn serve<'a>(
     readable: &'a [u8],
     writable: &'a mut [u8],
 ) -> LentResult
-    ensures { λ r. ⌜ ((s : State) → (record { answer = r .answer; buffer = now (writable .exit) }, device (withSettings settings (withEndpoints listed (now (endpoints .entry)) (now (owners .entry)) (now (attached .exit)) (now (domains .exit)) (r .live) s)) (now (t .exit))) ≡ requestFlat (device (withSettings settings (withEndpoints listed (now (endpoints .entry)) (now (owners .entry)) (now (attached .entry)) (now (domains .entry)) live s)) (now (t .entry))) g (now (readable .entry)) (now (writable .entry))) ⌝ }
+    ensures { λ r. ⌜ ((s : State) → (record { answer = r .answer; buffer = now (writable .exit) }, device (withSettings settings (withEndpoints listed (now (endpoints .entry)) (now (owners .entry)) (now (attached .exit)) (now (domains .exit)) (r .live) s)) (now (t .exit))) ≡ serve (device (withSettings settings (withEndpoints listed (now (endpoints .entry)) (now (owners .entry)) (now (attached .entry)) (now (domains .entry)) live s)) (now (t .entry))) g (now (readable .entry)) (now (writable .entry))) ⌝ }
 {
     if settings.guests <= (g.0 as usize) {
         return LentResult {
@@ -148,7 +149,13 @@ pub fn serve<'a>(
 }
 
 // A guest's request, in a readable and a writable part of any lengths.
-pub fn request(s: State, t: &mut [u64], g: Guest, readable: &[u8], writable: &mut [u8]) -> CallResult
+pub fn request(
+    s: State,
+    t: &mut [u64],
+    g: Guest,
+    readable: &[u8],
+    writable: &mut [u8],
+) -> CallResult
     ensures { λ r. ⌜ replied r (now (writable .exit)) (now (t .exit)) ≡ rules.step (device s (now (t .entry))) (rules.of-guest g (rules.request (now (readable .entry)) (now (writable .entry)))) ⌝ }
 {
     let settings = s.settings;

@@ -3,9 +3,9 @@ ghost use mathlib.Core.Path.{_≡_};
 ghost use Rattle.rules.specs.Handlers.{statusOf, unmapChain};
 ghost use Rattle.rules.specs.declared.State.{State};
 ghost use Rattle.state_fields.specs.Fields.{withDomains};
-ghost use Rattle.refinement.specs.Flat.{device, withStatus, unmapStatus, unmapFlat};
+ghost use Rattle.refinement.specs.Flat.{device, withStatus, unmapStatus};
+ghost use Rattle.refinement.specs.Flat as flat;
 use refinement::HandlerResult;
-use table_record::key_of;
 use rules::Domain;
 use rules::Guest;
 use rules::requests::INVAL;
@@ -13,6 +13,7 @@ use rules::requests::NOENT;
 use rules::requests::OK;
 use rules::requests::RANGE;
 use rules::sizes::MAX_ENDPOINTS;
+use table_record::key_of;
 
 // The status of UNMAP, by what its steps' tests give.
 fn first_unmap(missing: bool, reserved: bool, order: bool, cut: bool) -> u8
@@ -66,7 +67,7 @@ pub fn handle_unmap<'a>(
     b: u64,
     reserved: u64,
 ) -> HandlerResult
-    ensures { λ x. ⌜ ((s : State) → withStatus (x .status) (device (withDomains (now (owners .entry)) (now (attached .entry)) (now (domains .entry)) (x .live) s) (now (t .exit))) ≡ unmapFlat (device (withDomains (now (owners .entry)) (now (attached .entry)) (now (domains .entry)) live s) (now (t .entry))) g d a b reserved) ⌝ }
+    ensures { λ x. ⌜ ((s : State) → withStatus (x .status) (device (withDomains (now (owners .entry)) (now (attached .entry)) (now (domains .entry)) (x .live) s) (now (t .exit))) ≡ flat.handleUnmap (device (withDomains (now (owners .entry)) (now (attached .entry)) (now (domains .entry)) live s) (now (t .entry))) g d a b reserved) ⌝ }
 {
     let status = unmap_status(live, owners, attached, domains, t, g, d, a, b, reserved);
     if status != OK {

@@ -25,9 +25,9 @@ use Rattle.journal_session.specs.Steps.{callStep}
 use Rattle.journal_session.specs.Matching.{Matches}
 use Rattle.journal_step.proofs.Calling.{matches-call}
 use Rattle.journal_run.specs.declared.calls.RunStep.{RunStep}
-use Rattle.refinement.specs.Fetching.{fetched, unfetched, logFits, fetchFlat}
+use Rattle.refinement.specs.Fetching.{fetched, unfetched, logFits, fetchFaults}
 use Rattle.refinement.specs.Resetting.{resetAnswer, logsReset, domainsReset, resetWhole}
-use Rattle.refinement.specs.Translating.{answered, accessWhole}
+use Rattle.refinement.specs.Translating.{translate, accessWhole}
 use Rattle.journal_run.specs.Running.{ranTo}
 
 -- a call is worked that leaves this state by the count of live records, and its lines are put where there is room for them
@@ -45,21 +45,21 @@ module _ (guests : ℕ) (s : State) (g : Guest) (b : List ℕ) where
   abbrev Few : Reply × State → Type 0
   Few x = fetchedCount (x .0 .answer) ≤ length b / faultSize
 
-  fetches-few : Few (fetchFlat guests s g b)
-  unfolding fetchFlat fetched unfetched
+  fetches-few : Few (fetchFaults guests s g b)
+  unfolding fetchFaults fetched unfetched
   fetches-few =
       either-way Few (ltb (g .0) guests)
       (λ _. either-way Few (logFits s g) (λ _. min-le-right (getD (s .logged) (g .0) 0) (length b / faultSize)) (λ _. omega arith))
       (λ _. omega arith)
 
-  pub fetch-fits : (a : Answer) (buffer : List ℕ) (t : State) → (record { answer = a; buffer = buffer }, t) ≡ fetchFlat guests s g b → length buffer ≡ length b → length b ≤ faultSize * maxFaults → fetchFits a buffer ≡ true
+  pub fetch-fits : (a : Answer) (buffer : List ℕ) (t : State) → (record { answer = a; buffer = buffer }, t) ≡ fetchFaults guests s g b → length buffer ≡ length b → length b ≤ faultSize * maxFaults → fetchFits a buffer ≡ true
   unfolding fetchFits
   fetch-fits a buffer t e l h =
       let f : fetchedCount a ≤ length b / faultSize = rw (← e) at fetches-few in
       rw (le-leb (fetchedCount a) maxFaults (omega arith), le-leb (faultSize * fetchedCount a) (length buffer) (omega arith))
 
 -- the parts that an access, a reset and a fetch are told in, put together
-pub accessed : (s : State) (t : List ℕ) (x : Access) {a : Answer} {u : State} → a ≡ answered (device s t) x → u ≡ afterAccess s x a → (record { answer = a; buffer = [] }, device u t) ≡ accessWhole (device s t) x
+pub accessed : (s : State) (t : List ℕ) (x : Access) {a : Answer} {u : State} → a ≡ translate (device s t) x → u ≡ afterAccess s x a → (record { answer = a; buffer = [] }, device u t) ≡ accessWhole (device s t) x
 accessed s t x e f = rw (f, e)
 
 pub cleared : (guests : ℕ) (s : State) (t : List ℕ) (g : Guest) {a : Answer} {u : State} {d : Device}

@@ -17,7 +17,7 @@ use Rattle.rules.specs.Device.{request, reset, fetch, Call, of-guest, access-by
 use Rattle.rules.specs.Sound.{sound}
 use Rattle.rules.proofs.Claims.{calls-keep-sound}
 use Rattle.refinement.specs.Flat.{device}
-use Rattle.refinement.specs.Requesting.{requestFlat}
+use Rattle.refinement.specs.Requesting.{serve}
 use Rattle.refinement.proofs.Stepped.{request-step}
 use Rattle.refinement.proofs.Resetting.{reset-is-step}
 use Rattle.refinement.proofs.Fetching.{fetch-is-step}
@@ -107,7 +107,7 @@ module _ (s : State) (t b : List ℕ) {r : StepResult} {words out left : List �
   told-item e x = rw e x
 
   module _ (h : Ready (device s t)) where
-    pub told-request : (g : Guest) → front b ≡ Request g → Matches r words out left k (requestedStep b (requestFlat (device s t) g (requestBytes b) (replicate statusSize 0))) → Matches r words out left k (stepRecord (running s) t b)
+    pub told-request : (g : Guest) → front b ≡ Request g → Matches r words out left k (requestedStep b (serve (device s t) g (requestBytes b) (replicate statusSize 0))) → Matches r words out left k (stepRecord (running s) t b)
     unfolding stepOf
     told-request g e x = told-item e (subst (λ (y : Reply × Device). Matches r words out left k (requestedStep b y)) (request-step (device s t) (h .on) (h .shape) g (requestBytes b) (replicate statusSize 0)) x)
 

@@ -11,19 +11,19 @@ ghost use Rattle.state_fields.specs.Fields.{withSettings, withEndpoints, withLi
 ghost use Rattle.refinement.specs.Flat.{device};
 ghost use Rattle.journal_session.specs.Steps.{recordRoom, requestedStep, accessedStep, clearedStep, fetchedStep};
 ghost use Rattle.journal_session.specs.Matching.{Matches};
-ghost use Rattle.refinement.specs.Requesting.{requestFlat};
+ghost use Rattle.refinement.specs.Requesting.{serve};
 ghost use Rattle.refinement.specs.Translating.{accessWhole};
 ghost use Rattle.refinement.specs.Resetting.{resetWhole};
 ghost use Rattle.refinement.specs.Fetching.{fetchedWhole};
 ghost use Rattle.journal_run.specs.Running.{ranTo};
 use call_access::make_access;
-use call_reset::reset_guest;
-use journal_line_fetch::put_fetch;
 use call_fetch::fetch_faults;
+use call_request::serve;
+use call_reset::reset_guest;
 use journal_line_call::put_access;
 use journal_line_call::put_request;
+use journal_line_fetch::put_fetch;
 use journal_line_plain::put_number;
-use call_request::serve;
 use rules::Access;
 use rules::Guest;
 use rules::Settings;
@@ -74,7 +74,7 @@ pub(crate) fn work_request<'a>(
     ensures { λ r. ⌜ ((s : State) → Matches
         (ranTo (withSettings settings (withEndpoints listed (now (endpoints .entry)) (now (owners .entry)) (now (attached .exit)) (now (domains .exit)) (r .live) s)) r)
         (now (t .exit)) (now (out .entry)) (now (out .exit)) at
-        (requestedStep (now (b .entry)) (requestFlat (device (withSettings settings (withEndpoints listed (now (endpoints .entry)) (now (owners .entry)) (now (attached .entry)) (now (domains .entry)) live s)) (now (t .entry))) g (requestBytes (now (b .entry))) (replicate statusSize 0)))) ⌝ }
+        (requestedStep (now (b .entry)) (serve (device (withSettings settings (withEndpoints listed (now (endpoints .entry)) (now (owners .entry)) (now (attached .entry)) (now (domains .entry)) live s)) (now (t .entry))) g (requestBytes (now (b .entry))) (replicate statusSize 0)))) ⌝ }
 {
     let n = journal_records::size_of(b);
     let mut writable: [u8; STATUS_SIZE] = [0; STATUS_SIZE];

@@ -8,8 +8,8 @@ ghost use Rattle.journal_run.specs.Journal.{played};
 ghost use Rattle.journal_session.specs.Matching.{Matches};
 use crate::run::past;
 use crate::run::run;
-use journal_session::session::Session;
 use journal_session::session::RECORD_ROOM;
+use journal_session::session::Session;
 use journal_session::session::StepResult;
 
 // Whether the journal has started, and state and table are sound.

@@ -5,10 +5,10 @@ ghost use Rattle.journal_records.specs.declared.Item.the-variants.{NamedGuest, 
 ghost use Rattle.journal_session.specs.Steps.{stepOf};
 ghost use Rattle.journal_session.specs.Matching.{Matches};
 use crate::naming;
-use crate::session::Session;
-use crate::session::StepResult;
 use crate::results::consumed;
 use crate::results::unread;
+use crate::session::Session;
+use crate::session::StepResult;
 use journal_records::GuestFields;
 use rules::Endpoint;
 use rules::Guest;
@@ -27,7 +27,12 @@ pub fn guest(p: Session, s: &[u8], f: GuestFields) -> StepResult
     if settings.guests >= MAX_GUESTS {
         return unread(p, true);
     }
-    consumed(false, naming::name_guest(state, f), journal_records::size_of(s), 0)
+    consumed(
+        false,
+        naming::name_guest(state, f),
+        journal_records::size_of(s),
+        0,
+    )
 }
 
 // An endpoint is named, unless it is the 33rd or the journal has started.

@@ -10,16 +10,16 @@ ghost use Rattle.rules.specs.Device as rules;
 ghost use Rattle.refinement.specs.Flat.{device};
 ghost use Rattle.journal_session.specs.Steps.{recordRoom, running, stepOf, fetchedStep};
 ghost use Rattle.journal_session.specs.Matching.{stepResult, Matches};
-use refinement::CallResult;
-use journal_line_fetch::put_fetch;
-use journal_records::StartFields;
 use journal_line_call::put_access;
 use journal_line_call::put_request;
+use journal_line_fetch::put_fetch;
+use journal_records::StartFields;
 use journal_session::naming;
-use journal_session::session::Session;
-use journal_session::session::StepResult;
 use journal_session::results::consumed;
 use journal_session::results::unread;
+use journal_session::session::Session;
+use journal_session::session::StepResult;
+use refinement::CallResult;
 use rules::Access;
 use rules::Guest;
 use rules::State;
@@ -79,7 +79,14 @@ pub(crate) fn request(
 }
 
 // An access.
-pub(crate) fn access(p: Session, t: &[u64], s: &[u8], a: Access, out: &mut [u8], at: usize) -> StepResult
+pub(crate) fn access(
+    p: Session,
+    t: &[u64],
+    s: &[u8],
+    a: Access,
+    out: &mut [u8],
+    at: usize,
+) -> StepResult
     requires { ⌜ at + recordRoom ≤ length (now out) ⌝ }
     ensures { λ r. ⌜ Matches r (now (t .entry)) (now (out .entry)) (now (out .exit)) at (stepOf p (now (t .entry)) (now (s .entry)) (item.AccessBy a)) ⌝ }
 {

@@ -6,10 +6,10 @@ ghost use Rattle.journal_session.specs.Steps as steps;
 ghost use Rattle.journal_session.specs.Matching.{Matches};
 use journal_records::Item;
 use journal_session::named;
-use journal_session::session::Session;
-use journal_session::session::RECORD_ROOM;
-use journal_session::session::StepResult;
 use journal_session::results::unread;
+use journal_session::session::RECORD_ROOM;
+use journal_session::session::Session;
+use journal_session::session::StepResult;
 use journal_text::has_room;
 
 // The record at the front of s, the rest of a journal; its lines are put at place `at`. None is worked where there may be

@@ -16,7 +16,7 @@ use Rattle.rules.specs.Device.{fetch, of-guest, step}
 use Rattle.rules.proofs.Groups.{sound-facts}
 use Rattle.rules.proofs.Reading.{sound-good}
 use Rattle.rules.proofs.Refusals.{no-such-guest}
-use Rattle.refinement.specs.Fetching.{logFits, fetched, unfetched, fetchFlat, fetchedWhole}
+use Rattle.refinement.specs.Fetching.{logFits, fetched, unfetched, fetchFaults, fetchedWhole}
 use Rattle.refinement.proofs.Answered.{fetch-step}
 
 -- a guest's log in a sound state is one that it has room for
@@ -27,7 +27,7 @@ log-fits d h g t =
     both (ltb (g .0) maxGuests) _ (lt-ltb (g .0) maxGuests (omega (arith, few, below))) (le-leb (getD (d .state .logged) (g .0) 0) maxFaults (sound-facts d h .places .counts (g .0) below))
 
 pub fetch-is-step : (d : Device) → sound d ≡ true → Lengths (d .state) → (g : Guest) (b : List ℕ) → fetchedWhole (d .state .settings .guests) d g b ≡ step d (of-guest g (fetch b))
-unfolding fetchFlat fetched unfetched
+unfolding fetchFaults fetched unfetched
 fetch-is-step d h k g b = go (ltb (g .0) (d .state .settings .guests)) refl
   where
     go : (t : Bool) → ltb (g .0) (d .state .settings .guests) ≡ t → fetchedWhole (d .state .settings .guests) d g b ≡ step d (of-guest g (fetch b))

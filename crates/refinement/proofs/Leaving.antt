@@ -37,7 +37,7 @@ use Rattle.rules.proofs.Writing.{kept}
 use Rattle.table_remove.specs.Removed.{within}
 use Rattle.state_endpoints.specs.Changes.{attachedAt}
 use Rattle.state_endpoints.specs.Search.{indexOf}
-use Rattle.refinement.specs.Flat.{device, isAttached, existsFlat, removed, left, entered, noDomain}
+use Rattle.refinement.specs.Flat.{device, isAttached, domainExists, removed, left, entered, noDomain}
 use Rattle.rules.proofs.PutBack.{with-kept}
 use Rattle.rules.proofs.Unchanged.{attachments-same, records-same, logs-same}
 use Rattle.refinement.proofs.Places.{owner-at, attachment-at, attached-at}
@@ -132,7 +132,7 @@ module _ (c : Config) (k : kept c ≡ c) (w : World) (h : Whole c w) (g : Guest)
   changed : (a : Attachment) → weaveBy (g .0) (c .owners) (w .attachments) (attachedAs e a (own c g .endpoints) (part c g w .attachments)) ≡ set (w .attachments) (indexOf (e .0) (c .endpoints)) a
   changed a = unfold own part in attached-at e a g (c .endpoints) (c .owners) (w .attachments) owners-size size owner
 
-  exists-after : (a : Attachment) (dom : Domain) → existsFlat (stateOf c (withAtts (set (w .attachments) (indexOf (e .0) (c .endpoints)) a) w)) g dom ≡ exists dom (attachedAs e a (own c g .endpoints) (part c g w .attachments))
+  exists-after : (a : Attachment) (dom : Domain) → domainExists (stateOf c (withAtts (set (w .attachments) (indexOf (e .0) (c .endpoints)) a) w)) g dom ≡ exists dom (attachedAs e a (own c g .endpoints) (part c g w .attachments))
   exists-after a dom =
       exists-written c good-c (withAtts (set (w .attachments) (indexOf (e .0) (c .endpoints)) a) w) (length-set (w .attachments) _ a ∙ h .attachments) g dom
       ∙ ap (λ (l : List Attachment). exists dom (pickBy (g .0) (c .owners) l)) (sym (changed a))

@@ -43,7 +43,8 @@ use Rattle.state_log.specs.Changes.{faultLogged}
 use Rattle.state_log.specs.Dropped.{faultsDropped}
 use Rattle.state_reset.specs.Changes.{guestCleared}
 use Rattle.state_endpoints.specs.Search.{indexOf}
-use Rattle.refinement.specs.Flat.{device, withStatus, endpointIndex, ownedAt, isAttached, existsFlat, liveRecords, removed, inserted, left, entered, moved, settled, attachStatus, attachFlat, detachStatus, detachFlat, mapStatus, mapFlat, unmapStatus, unmapFlat, resetFlat}
+use Rattle.refinement.specs.Flat.{device, withStatus, endpointIndex, ownedAt, isAttached, domainExists, liveRecords, removed, inserted, left, entered, moved, settled, attachStatus, detachStatus, mapStatus, mapCounted, unmapStatus, resetGuest}
+use Rattle.refinement.specs.Flat as flat
 use Rattle.rules.proofs.PutBack.{with-kept, with-inserted, any-of}
 use Rattle.rules.proofs.Unchanged.{attachments-same, records-same, replace-same}
 use Rattle.refinement.proofs.Places.{owner-at, listed-owned}
@@ -138,8 +139,8 @@ module _ (c : Config) (k : kept c ≡ c) (w : World) (h : Whole c w) (g : Guest)
       ∙ ap (λ (s : Settings). statusOf (attachChain (not (eqb z 0)) (not (listed e (own c g .endpoints))) (outside (s .domains .start) (s .domains .end) (dom .0)))) settings-is
       ∙ unfold own in refl
 
-  pub attach-written : (dom : Domain) (e : Endpoint) (z : ℕ) → attachFlat (write c w) g dom e z ≡ withStatus (handleAttach (own c g) (part c g w) dom e z .0) (write c (replace c g (handleAttach (own c g) (part c g w) dom e z .1) w))
-  unfolding attachFlat handleAttach
+  pub attach-written : (dom : Domain) (e : Endpoint) (z : ℕ) → flat.handleAttach (write c w) g dom e z ≡ withStatus (handleAttach (own c g) (part c g w) dom e z .0) (write c (replace c g (handleAttach (own c g) (part c g w) dom e z .1) w))
+  unfolding flat.handleAttach handleAttach
   attach-written dom e z =
       ap (λ n. settled n (write c w) (moved (write c w) g (endpointIndex (write c w .state) e) dom)) (attach-status dom e z)
       ∙ settled-written c w g (attachSteps (own c g) dom e z) (write c w) (moved (write c w) g (endpointIndex (write c w .state) e) dom) (part c g w) (attached (own c g) e dom (part c g w)) refl same-world
@@ -162,8 +163,8 @@ module _ (c : Config) (k : kept c ≡ c) (w : World) (h : Whole c w) (g : Guest)
           (ap (λ n. isAttached (write c w .state) n && eqb (getD (write c w .state .domains) n 0) (dom .0)) (place-is e) ∙ in-domain c k w h g m e (owner-of e x) dom)
       go false x = refl
 
-  pub detach-written : (dom : Domain) (e : Endpoint) (z : ℕ) → detachFlat (write c w) g dom e z ≡ withStatus (handleDetach (own c g) (part c g w) dom e z .0) (write c (replace c g (handleDetach (own c g) (part c g w) dom e z .1) w))
-  unfolding detachFlat handleDetach
+  pub detach-written : (dom : Domain) (e : Endpoint) (z : ℕ) → flat.handleDetach (write c w) g dom e z ≡ withStatus (handleDetach (own c g) (part c g w) dom e z .0) (write c (replace c g (handleDetach (own c g) (part c g w) dom e z .1) w))
+  unfolding flat.handleDetach handleDetach
   detach-written dom e z =
       ap (λ n. settled n (write c w) (left (write c w) g (endpointIndex (write c w .state) e) dom)) (detach-status dom e z)
       ∙ settled-written c w g (detachSteps (own c g) (part c g w) dom e z) (write c w) (left (write c w) g (endpointIndex (write c w .state) e) dom) (part c g w) (leave (own c g) e dom (part c g w)) refl same-world
@@ -183,7 +184,7 @@ module _ (c : Config) (k : kept c ≡ c) (w : World) (h : Whole c w) (g : Guest)
   live-is : liveRecords (write c w) ≡ w .records
   live-is = unfold write stateOf in records-tableOf (w .records)
 
-  exists-is : (dom : Domain) → existsFlat (write c w .state) g dom ≡ exists dom (part c g w .attachments)
+  exists-is : (dom : Domain) → domainExists (write c w .state) g dom ≡ exists dom (part c g w .attachments)
   exists-is dom = unfold write part in exists-written c good-c w (h .attachments) g dom
 
   existing-small : (dom : Domain) → exists dom (part c g w .attachments) ≡ true → dom .0 < domainSpan
@@ -201,7 +202,7 @@ module _ (c : Config) (k : kept c ≡ c) (w : World) (h : Whole c w) (g : Guest)
   map-status : (dom : Domain) (r : Mapping) → r .key ≡ keyOf g dom → mapStatus (write c w) g dom r ≡ statusOf (mapSteps (own c g) (part c g w) dom r)
   unfolding mapStatus
   map-status dom r e =
-      ap (λ (x : Config). statusOf (mapChain (not (existsFlat (write c w .state) g dom)) (formSteps (own x g) r) meets full)) config-is
+      ap (λ (x : Config). statusOf (mapChain (not (domainExists (write c w .state) g dom)) (formSteps (own x g) r) meets full)) config-is
       ∙ ap (λ b. statusOf (mapChain (not b) (formSteps (own c g) r) meets full)) (exists-is dom)
       ∙ go (exists dom (part c g w .attachments)) refl
     where
@@ -225,8 +226,8 @@ module _ (c : Config) (k : kept c ≡ c) (w : World) (h : Whole c w) (g : Guest)
       (subst (λ (x : Config). g .0 < x .settings .guests) (sym config-is) m)
       (subst (λ (x : Config). length (part x g (read (write c w)) .records) < share (x .settings) (g .0)) (sym config-is) (rw (read-write c w h) (unfold own in l))))
 
-  pub map-written : (dom : Domain) (r : Mapping) → r .key ≡ keyOf g dom → mapFlat (write c w) g dom r ≡ withStatus (handleMap (own c g) (part c g w) dom r .0) (write c (replace c g (handleMap (own c g) (part c g w) dom r .1) w))
-  unfolding mapFlat handleMap
+  pub map-written : (dom : Domain) (r : Mapping) → r .key ≡ keyOf g dom → mapCounted (write c w) g dom r ≡ withStatus (handleMap (own c g) (part c g w) dom r .0) (write c (replace c g (handleMap (own c g) (part c g w) dom r .1) w))
+  unfolding mapCounted handleMap
   map-written dom r e =
       ap (λ n. settled n (write c w) (inserted (write c w) r)) (map-status dom r e)
       ∙ settled-written c w g (mapSteps (own c g) (part c g w) dom r) (write c w) (inserted (write c w) r) (part c g w) (withRecords (insertMapping r (part c g w .records)) (part c g w)) (unfold formSteps in refl) same-world go
@@ -276,8 +277,8 @@ module _ (c : Config) (k : kept c ≡ c) (w : World) (h : Whole c w) (g : Guest)
           or-true true = refl
           or-true false = refl
 
-  pub unmap-written : (dom : Domain) (a b z : ℕ) → unmapFlat (write c w) g dom a b z ≡ withStatus (handleUnmap (own c g) (part c g w) dom a b z .0) (write c (replace c g (handleUnmap (own c g) (part c g w) dom a b z .1) w))
-  unfolding unmapFlat handleUnmap
+  pub unmap-written : (dom : Domain) (a b z : ℕ) → flat.handleUnmap (write c w) g dom a b z ≡ withStatus (handleUnmap (own c g) (part c g w) dom a b z .0) (write c (replace c g (handleUnmap (own c g) (part c g w) dom a b z .1) w))
+  unfolding flat.handleUnmap handleUnmap
   unmap-written dom a b z =
       ap (λ n. settled n (write c w) (removed (write c w) (keyOf g dom) (keyOf g dom) a b)) (unmap-status dom a b z)
       ∙ settled-written c w g (unmapSteps (own c g) (part c g w) dom a b z) (write c w) (removed (write c w) (keyOf g dom) (keyOf g dom) a b) (part c g w) (withRecords (without (inside (keyOf (own c g .guest) dom) a b) (part c g w .records)) (part c g w)) refl same-world
@@ -308,8 +309,8 @@ module _ (c : Config) (k : kept c ≡ c) (w : World) (h : Whole c w) (g : Guest)
       or-no true = refl
       or-no false = refl
 
-  pub reset-written : resetFlat (write c w) g ≡ write c (replace c g (afterReset (part c g w)) w)
-  unfolding resetFlat afterReset replace
+  pub reset-written : resetGuest (write c w) g ≡ write c (replace c g (afterReset (part c g w)) w)
+  unfolding resetGuest afterReset replace
   reset-written =
       ap (λ (s : State). removed (device s (write c w .table)) (g .0 * domainSpan) (g .0 * domainSpan + (domainSpan - 1)) 0 topAddress) cleared
       ∙ fewer

@@ -15,7 +15,7 @@ use Rattle.rules.specs.Device.{reset, of-guest, step}
 use Rattle.rules.proofs.Reading.{sound-good}
 use Rattle.rules.proofs.Refusals.{no-such-guest}
 use Rattle.state_reset.specs.Changes.{guestCleared}
-use Rattle.refinement.specs.Flat.{device, resetFlat}
+use Rattle.refinement.specs.Flat.{device, resetGuest}
 use Rattle.refinement.specs.Resetting.{isGuest, resetAnswer, logsReset, domainsReset, resetWhole}
 use Rattle.refinement.proofs.Stepped.{reset-step}
 
@@ -28,7 +28,7 @@ reset-is-step d h k g = go (ltb (g .0) (d .state .settings .guests)) refl
     all-have = ap (λ n. ltb (g .0) n) (min-eq-left (unfold configOf in sound-good d h .guests .1))
 
     go : (b : Bool) → ltb (g .0) (d .state .settings .guests) ≡ b → resetWhole (d .state .settings .guests) d g ≡ step d (of-guest g reset)
-    go true t = rw (all-have ∙ t) (unfold resetFlat guestCleared in sym (reset-step d h k g t))
+    go true t = rw (all-have ∙ t) (unfold resetGuest guestCleared in sym (reset-step d h k g t))
     go false t = rw (all-have ∙ t) (sym (no-such-guest d (of-guest g reset) (unfold configOf in t)))
 
 -- the same of a reset whose three parts are told

@@ -29,8 +29,10 @@ use Rattle.rules.specs.State.{Lengths}
 use Rattle.wire_requests.specs.Parsed.{asked, mapFields, unmapFields}
 use Rattle.wire_requests.specs.declared.request.Request.the-variants.{Attach, Detach, Map, Unmap}
 use Rattle.wire_requests.specs.declared.request.Request.the-variants as Q
-use Rattle.refinement.specs.Flat.{StatusAndDevice, withStatus, mapPlaced, resetFlat}
-use Rattle.refinement.specs.Requesting.{recordOf, handled, refusedFlat, unlessRefused, requestFlat}
+use Rattle.refinement.specs.Flat.{StatusAndDevice, withStatus, resetGuest}
+use Rattle.refinement.specs.Flat as flat
+use Rattle.refinement.specs.Requesting.{recordOf, refusedRequest, unlessRefused, serve}
+use Rattle.refinement.specs.Requesting as requesting
 use Rattle.rules.proofs.Refusals.{no-such-guest, sound-step}
 use Rattle.rules.proofs.Unchanged.{replace-same, kept-is, written, still}
 use Rattle.refinement.proofs.Requested.{attach-written, detach-written, map-written, unmap-written, reset-written}
@@ -44,11 +46,11 @@ module _ (d : Device) (h : sound d ≡ true) (k : Lengths (d .state)) where
 
   -- RESET
 
-  pub reset-step : (g : Guest) → ltb (g .0) (d .state .settings .guests) ≡ true → step d (of-guest g reset) ≡ (record { answer = Done; buffer = [] }, resetFlat d g)
+  pub reset-step : (g : Guest) → ltb (g .0) (d .state .settings .guests) ≡ true → step d (of-guest g reset) ≡ (record { answer = Done; buffer = [] }, resetGuest d g)
   reset-step g l =
       sound-step d (of-guest g reset) (unfold configOf in l) h
       ∙ unfold caller rules.performed work rule jobRule in
-      ap (λ (e : Device). (record { answer = Done; buffer = [] }, e)) (sym (ap (λ (e : Device). resetFlat e g) (written d h k) ∙ reset-written (configOf (d .state)) (kept-is d h k) (read d) (sound-whole d h) g (unfold configOf in ltb-true (g .0) (d .state .settings .guests) l)))
+      ap (λ (e : Device). (record { answer = Done; buffer = [] }, e)) (sym (ap (λ (e : Device). resetGuest e g) (written d h k) ∙ reset-written (configOf (d .state)) (kept-is d h k) (read d) (sound-whole d h) g (unfold configOf in ltb-true (g .0) (d .state .settings .guests) l)))
 
   -- REQUESTS
 
@@ -75,20 +77,20 @@ module _ (d : Device) (h : sound d ≡ true) (k : Lengths (d .state)) where
         subst (λ (e : Device). (ltb (g .0) maxGuests && ltb (e .state .live) topAddress) ≡ true) (written d h k)
         (both (ltb (g .0) maxGuests) _ (lt-ltb (g .0) maxGuests (omega (arith, few, one))) (lt-ltb (d .state .live) topAddress (omega (arith, live))))
 
-    map-here : (r : List ℕ) → mapPlaced (write (configOf (d .state)) (read d)) g (domainField r) (recordOf g (domainField r) (mapFields r)) ≡ back (handleMap (own (configOf (d .state)) g) (part (configOf (d .state)) g (read d)) (domainField r) (askedFor (own (configOf (d .state)) g) r))
-    map-here r = unfold own mapPlaced in rw placed (map-written (configOf (d .state)) (kept-is d h k) (read d) (sound-whole d h) g m (domainField r) (recordOf g (domainField r) (mapFields r)) refl)
+    map-here : (r : List ℕ) → flat.handleMap (write (configOf (d .state)) (read d)) g (domainField r) (recordOf g (domainField r) (mapFields r)) ≡ back (handleMap (own (configOf (d .state)) g) (part (configOf (d .state)) g (read d)) (domainField r) (askedFor (own (configOf (d .state)) g) r))
+    map-here r = unfold own flat.handleMap in rw placed (map-written (configOf (d .state)) (kept-is d h k) (read d) (sound-whole d h) g m (domainField r) (recordOf g (domainField r) (mapFields r)) refl)
 
-    handle-step : (r : List ℕ) → handled d g (asked r) ≡ back (handle (own (configOf (d .state)) g) (part (configOf (d .state)) g (read d)) r)
-    handle-step r = ap (λ (e : Device). handled e g (asked r)) (written d h k) ∙ unfold asked handle in go (eqb (typeOf r) ATTACH) (eqb (typeOf r) DETACH) (eqb (typeOf r) MAP) (eqb (typeOf r) UNMAP)
+    handle-step : (r : List ℕ) → requesting.handle d g (asked r) ≡ back (handle (own (configOf (d .state)) g) (part (configOf (d .state)) g (read d)) r)
+    handle-step r = ap (λ (e : Device). requesting.handle e g (asked r)) (written d h k) ∙ unfold asked handle in go (eqb (typeOf r) ATTACH) (eqb (typeOf r) DETACH) (eqb (typeOf r) MAP) (eqb (typeOf r) UNMAP)
       where
         go : (t u v x : Bool)
-            → handled (write (configOf (d .state)) (read d)) g (cond t (Attach (domainField r) (endpointField r) (attachReserved r)) (cond u (Detach (domainField r) (endpointField r) (attachReserved r)) (cond v (Map (domainField r) (mapFields r)) (cond x (Unmap (domainField r) (unmapFields r)) (Q.Refused UnknownType)))))
+            → requesting.handle (write (configOf (d .state)) (read d)) g (cond t (Attach (domainField r) (endpointField r) (attachReserved r)) (cond u (Detach (domainField r) (endpointField r) (attachReserved r)) (cond v (Map (domainField r) (mapFields r)) (cond x (Unmap (domainField r) (unmapFields r)) (Q.Refused UnknownType)))))
             ≡ back (cond t (handleAttach (own (configOf (d .state)) g) (part (configOf (d .state)) g (read d)) (domainField r) (endpointField r) (attachReserved r)) (cond u (handleDetach (own (configOf (d .state)) g) (part (configOf (d .state)) g (read d)) (domainField r) (endpointField r) (attachReserved r)) (cond v (handleMap (own (configOf (d .state)) g) (part (configOf (d .state)) g (read d)) (domainField r) (askedFor (own (configOf (d .state)) g) r)) (cond x (handleUnmap (own (configOf (d .state)) g) (part (configOf (d .state)) g (read d)) (domainField r) (virtStart r) (virtEnd r) (unmapReserved r)) (DEVERR, part (configOf (d .state)) g (read d))))))
-        go true u v x = unfold handled in attach-written (configOf (d .state)) (kept-is d h k) (read d) (sound-whole d h) g m (domainField r) (endpointField r) (attachReserved r)
-        go false true v x = unfold handled in detach-written (configOf (d .state)) (kept-is d h k) (read d) (sound-whole d h) g m (domainField r) (endpointField r) (attachReserved r)
-        go false false true x = unfold handled in map-here r
-        go false false false true = unfold handled in unmap-written (configOf (d .state)) (kept-is d h k) (read d) (sound-whole d h) g m (domainField r) (virtStart r) (virtEnd r) (unmapReserved r)
-        go false false false false = unfold handled in ap (λ (v : World). withStatus DEVERR (write (configOf (d .state)) v)) (sym (replace-same (configOf (d .state)) (read d) (sound-whole d h) g))
+        go true u v x = unfold requesting.handle in attach-written (configOf (d .state)) (kept-is d h k) (read d) (sound-whole d h) g m (domainField r) (endpointField r) (attachReserved r)
+        go false true v x = unfold requesting.handle in detach-written (configOf (d .state)) (kept-is d h k) (read d) (sound-whole d h) g m (domainField r) (endpointField r) (attachReserved r)
+        go false false true x = unfold requesting.handle in map-here r
+        go false false false true = unfold requesting.handle in unmap-written (configOf (d .state)) (kept-is d h k) (read d) (sound-whole d h) g m (domainField r) (virtStart r) (virtEnd r) (unmapReserved r)
+        go false false false false = unfold requesting.handle in ap (λ (v : World). withStatus DEVERR (write (configOf (d .state)) v)) (sym (replace-same (configOf (d .state)) (read d) (sound-whole d h) g))
 
     -- a request that is refused, and one that is worked
     refused-step : (r b : List ℕ) (a : Refusal) → firstFailing (requestRefusals r (length b)) ≡ some a → step d (of-guest g (request r b)) ≡ (record { answer = Refused a; buffer = b }, d)
@@ -97,19 +99,19 @@ module _ (d : Device) (h : sound d ≡ true) (k : Lengths (d .state)) where
         ∙ unfold caller rules.performed work rule jobRule requested in
         rw f (ap (λ (e : Device). (record { answer = Refused a; buffer = b }, e)) (still d h k g (part (configOf (d .state)) g (read d)) refl))
 
-    served-step : (r b : List ℕ) → firstFailing (requestRefusals r (length b)) ≡ none → step d (of-guest g (request r b)) ≡ (record { answer = Served 4; buffer = handled d g (asked r) .status ∷ 0 ∷ 0 ∷ 0 ∷ [] }, handled d g (asked r) .left)
+    served-step : (r b : List ℕ) → firstFailing (requestRefusals r (length b)) ≡ none → step d (of-guest g (request r b)) ≡ (record { answer = Served 4; buffer = requesting.handle d g (asked r) .status ∷ 0 ∷ 0 ∷ 0 ∷ [] }, requesting.handle d g (asked r) .left)
     served-step r b f =
         sound-step d (of-guest g (request r b)) (unfold configOf in l) h
         ∙ unfold caller rules.performed work rule jobRule requested in
         rw f (ap (λ (x : StatusAndDevice). (record { answer = Served 4; buffer = x .status ∷ 0 ∷ 0 ∷ 0 ∷ [] }, x .left)) (sym (handle-step r)))
 
   -- a request on sound state and table is the device's step
-  pub request-step : (g : Guest) (r b : List ℕ) → requestFlat d g r b ≡ step d (of-guest g (request r b))
-  unfolding requestFlat
+  pub request-step : (g : Guest) (r b : List ℕ) → serve d g r b ≡ step d (of-guest g (request r b))
+  unfolding serve
   request-step g r b = go (ltb (g .0) (d .state .settings .guests)) refl (firstFailing (requestRefusals r (length b))) refl
     where
       go : (t : Bool) → ltb (g .0) (d .state .settings .guests) ≡ t → (m : Option Refusal) → firstFailing (requestRefusals r (length b)) ≡ m
-          → cond t (unlessRefused d g r b m) (refusedFlat d b NoSuchGuest) ≡ step d (of-guest g (request r b))
+          → cond t (unlessRefused d g r b m) (refusedRequest d b NoSuchGuest) ≡ step d (of-guest g (request r b))
       go false n m f = sym (no-such-guest d (of-guest g (request r b)) (unfold configOf in n))
       go true l none f = unfold unlessRefused in sym (served-step g l r b f)
       go true l (some a) f = unfold unlessRefused in sym (refused-step g l r b a f)

@@ -28,7 +28,7 @@ use Rattle.table_insert.proofs.Inserted.{inserted-table}
 use Rattle.table_remove.proofs.Removed.{removed-table}
 use Rattle.state_endpoints.specs.Changes.{attachedAt}
 use Rattle.state_endpoints.specs.Search.{anyBelow, belongs}
-use Rattle.refinement.specs.Flat.{existsFlat, removed, inserted}
+use Rattle.refinement.specs.Flat.{domainExists, removed, inserted}
 
 -- a world with one thing changed
 abbrev pub withAtts : List Attachment → World → World
@@ -117,9 +117,9 @@ module _ (c : Config) (good-c : Good c) (w : World) (size : length (w .attachmen
       go none = refl
       go (some e) = refl
 
-  pub exists-written : (g : Guest) (dom : Domain) → existsFlat (stateOf c w) g dom ≡ exists dom (pickBy (g .0) (c .owners) (w .attachments))
+  pub exists-written : (g : Guest) (dom : Domain) → domainExists (stateOf c w) g dom ≡ exists dom (pickBy (g .0) (c .owners) (w .attachments))
   exists-written g dom =
-      unfold existsFlat exists in
+      unfold domainExists exists in
       (rw sizes (same-test _ _
       (λ x. let r = any-at maxEndpoints _ x in owned-from (g .0) (isIn dom) (c .owners) (w .attachments) (r .0) (inside (r .0) (rw (belongs-at g dom (r .0) (r .1)) at (r .2))) (omega (arith, size)) (rw (belongs-at g dom (r .0) (r .1)) at (r .2)))
       (λ x. let r = owned-at (g .0) (isIn dom) (c .owners) (w .attachments) x in any-from maxEndpoints _ (r .0) (small (r .1)) (rw (belongs-at g dom (r .0) (small (r .1))) (r .2)))))

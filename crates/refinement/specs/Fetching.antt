@@ -28,12 +28,12 @@ abbrev pub logFits : State → Guest → Bool
 logFits s g = ltb (g .0) maxGuests && leb (getD (s .logged) (g .0) 0) maxFaults
 
 -- a fetch for guest g, of so many guests; a log that a sound state has not is refused
-unfoldable pub fetchFlat : ℕ → State → Guest → List ℕ → Reply × State
-fetchFlat guests s g buffer =
+unfoldable pub fetchFaults : ℕ → State → Guest → List ℕ → Reply × State
+fetchFaults guests s g buffer =
     cond (ltb (g .0) guests)
     (cond (logFits s g) (fetched s g (fetchCount s g (length buffer)) buffer) (unfetched s Unsound buffer))
     (unfetched s NoSuchGuest buffer)
 
 -- the same on the device, whose table stays
 abbrev pub fetchedWhole : ℕ → Device → Guest → List ℕ → Reply × Device
-fetchedWhole guests d g buffer = (fetchFlat guests (d .state) g buffer .0, device (fetchFlat guests (d .state) g buffer .1) (d .table))
+fetchedWhole guests d g buffer = (fetchFaults guests (d .state) g buffer .0, device (fetchFaults guests (d .state) g buffer .1) (d .table))

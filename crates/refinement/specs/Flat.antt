@@ -63,8 +63,8 @@ ownerAt s i = record { 0 = getD (s .owners) i 0 }
 abbrev pub noDomain : Domain
 noDomain = record { 0 = 0 }
 
-unfoldable pub existsFlat : State → Guest → Domain → Bool
-existsFlat s g d = anyBelow (min (length (s .owners)) (min (length (s .attached)) (length (s .domains)))) (belongs (s .owners) (s .attached) (s .domains) g d)
+unfoldable pub domainExists : State → Guest → Domain → Bool
+domainExists s g d = anyBelow (min (length (s .owners)) (min (length (s .attached)) (length (s .domains)))) (belongs (s .owners) (s .attached) (s .domains) g d)
 
 -- RECORDS
 
@@ -84,7 +84,7 @@ inserted d r = device (withLive (suc (d .state .live)) (d .state)) (insertedWord
 -- the endpoint at place i leaves domain dom
 unfoldable pub left : Device → Guest → ℕ → Domain → Device
 left d g i dom =
-    cond (existsFlat (attachedAt (d .state) i 0 noDomain) g dom) (device (attachedAt (d .state) i 0 noDomain) (d .table))
+    cond (domainExists (attachedAt (d .state) i 0 noDomain) g dom) (device (attachedAt (d .state) i 0 noDomain) (d .table))
     (removed (device (attachedAt (d .state) i 0 noDomain) (d .table)) (keyOf g dom) (keyOf g dom) 0 topAddress)
 
 -- and enters one
@@ -106,45 +106,45 @@ unfoldable pub attachStatus : State → Guest → Domain → ℕ → ℕ → ℕ
 attachStatus s g dom i reserved =
     statusOf (attachChain (not (eqb reserved 0)) (not (ownedAt s g i)) (outside (s .settings .domains .start) (s .settings .domains .end) (dom .0)))
 
-unfoldable pub attachFlat : Device → Guest → Domain → Endpoint → ℕ → StatusAndDevice
-attachFlat d g dom e reserved = settled (attachStatus (d .state) g dom (endpointIndex (d .state) e) reserved) d (moved d g (endpointIndex (d .state) e) dom)
+unfoldable pub handleAttach : Device → Guest → Domain → Endpoint → ℕ → StatusAndDevice
+handleAttach d g dom e reserved = settled (attachStatus (d .state) g dom (endpointIndex (d .state) e) reserved) d (moved d g (endpointIndex (d .state) e) dom)
 
 -- the status of a DETACH of the endpoint at place i
 unfoldable pub detachStatus : State → Guest → Domain → ℕ → ℕ → ℕ
 detachStatus s g dom i reserved =
     statusOf (detachChain (not (eqb reserved 0)) (not (ownedAt s g i)) (not (isAttached s i && eqb (getD (s .domains) i 0) (dom .0))))
 
-unfoldable pub detachFlat : Device → Guest → Domain → Endpoint → ℕ → StatusAndDevice
-detachFlat d g dom e reserved = settled (detachStatus (d .state) g dom (endpointIndex (d .state) e) reserved) d (left d g (endpointIndex (d .state) e) dom)
+unfoldable pub handleDetach : Device → Guest → Domain → Endpoint → ℕ → StatusAndDevice
+handleDetach d g dom e reserved = settled (detachStatus (d .state) g dom (endpointIndex (d .state) e) reserved) d (left d g (endpointIndex (d .state) e) dom)
 
 -- MAP AND UNMAP
 
 unfoldable pub mapStatus : Device → Guest → Domain → Mapping → ℕ
 mapStatus d g dom r =
     statusOf (mapChain
-    (not (existsFlat (d .state) g dom))
+    (not (domainExists (d .state) g dom))
     (formSteps (own (configOf (d .state)) g) r)
     (any? (overlap r) (liveRecords d))
     (leb (share (d .state .settings) (g .0)) (length (recordsOf g (liveRecords d)))))
 
-unfoldable pub mapFlat : Device → Guest → Domain → Mapping → StatusAndDevice
-mapFlat d g dom r = settled (mapStatus d g dom r) d (inserted d r)
+unfoldable pub mapCounted : Device → Guest → Domain → Mapping → StatusAndDevice
+mapCounted d g dom r = settled (mapStatus d g dom r) d (inserted d r)
 
 -- the same where the guest has a place and one record more can be counted, as in a sound device; else a device error
-unfoldable pub mapPlaced : Device → Guest → Domain → Mapping → StatusAndDevice
-mapPlaced d g dom r = cond (ltb (g .0) maxGuests && ltb (d .state .live) topAddress) (mapFlat d g dom r) (withStatus DEVERR d)
+unfoldable pub handleMap : Device → Guest → Domain → Mapping → StatusAndDevice
+handleMap d g dom r = cond (ltb (g .0) maxGuests && ltb (d .state .live) topAddress) (mapCounted d g dom r) (withStatus DEVERR d)
 
 unfoldable pub unmapStatus : Device → Guest → Domain → ℕ → ℕ → ℕ → ℕ
 unmapStatus d g dom a b reserved =
-    statusOf (unmapChain (not (existsFlat (d .state) g dom)) (not (eqb reserved 0)) (ltb b a) (any? (straddles (keyOf g dom) a b) (liveRecords d)))
+    statusOf (unmapChain (not (domainExists (d .state) g dom)) (not (eqb reserved 0)) (ltb b a) (any? (straddles (keyOf g dom) a b) (liveRecords d)))
 
-unfoldable pub unmapFlat : Device → Guest → Domain → ℕ → ℕ → ℕ → StatusAndDevice
-unmapFlat d g dom a b reserved = settled (unmapStatus d g dom a b reserved) d (removed d (keyOf g dom) (keyOf g dom) a b)
+unfoldable pub handleUnmap : Device → Guest → Domain → ℕ → ℕ → ℕ → StatusAndDevice
+handleUnmap d g dom a b reserved = settled (unmapStatus d g dom a b reserved) d (removed d (keyOf g dom) (keyOf g dom) a b)
 
 -- RESET
 
-unfoldable pub resetFlat : Device → Guest → Device
-resetFlat d g = removed (device (guestCleared (d .state) g) (d .table)) (g .0 * domainSpan) (g .0 * domainSpan + (domainSpan - 1)) 0 topAddress
+unfoldable pub resetGuest : Device → Guest → Device
+resetGuest d g = removed (device (guestCleared (d .state) g) (d .table)) (g .0 * domainSpan) (g .0 * domainSpan + (domainSpan - 1)) 0 topAddress
 
 -- ACCESS
 

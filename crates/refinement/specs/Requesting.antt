@@ -22,31 +22,32 @@ use Rattle.wire_requests.specs.declared.request.Request.{Request}
 use Rattle.wire_requests.specs.declared.request.Request.the-variants.{Attach, Detach, Map, Unmap}
 use Rattle.wire_requests.specs.declared.request.Request.the-variants as Q
 use Rattle.wire_requests.specs.declared.request.MapFields.{MapFields}
-use Rattle.refinement.specs.Flat.{StatusAndDevice, withStatus, attachFlat, detachFlat, mapPlaced, unmapFlat}
+use Rattle.refinement.specs.Flat.{StatusAndDevice, withStatus}
+use Rattle.refinement.specs.Flat as flat
 
 -- the record that a MAP request of guest g asks for
 abbrev pub recordOf : Guest → Domain → MapFields → Mapping
 recordOf g d f = mapping (keyOf g d) (f .start) (f .end) (f .phys) (f .flags)
 
 -- what the handler of a parsed request gives, by its case; a refused one has none
-unfoldable pub handled : Device → Guest → Request → StatusAndDevice
-handled d g (Q.Refused a) = withStatus DEVERR d
-handled d g (Attach dom e z) = attachFlat d g dom e z
-handled d g (Detach dom e z) = detachFlat d g dom e z
-handled d g (Map dom f) = mapPlaced d g dom (recordOf g dom f)
-handled d g (Unmap dom f) = unmapFlat d g dom (f .start) (f .end) (f .reserved)
+unfoldable pub handle : Device → Guest → Request → StatusAndDevice
+handle d g (Q.Refused a) = withStatus DEVERR d
+handle d g (Attach dom e z) = flat.handleAttach d g dom e z
+handle d g (Detach dom e z) = flat.handleDetach d g dom e z
+handle d g (Map dom f) = flat.handleMap d g dom (recordOf g dom f)
+handle d g (Unmap dom f) = flat.handleUnmap d g dom (f .start) (f .end) (f .reserved)
 
 -- a refused request, and one that is worked: the status and three zeros
-abbrev pub refusedFlat : Device → List ℕ → Refusal → Reply × Device
-refusedFlat d b e = (record { answer = Refused e; buffer = b }, d)
+abbrev pub refusedRequest : Device → List ℕ → Refusal → Reply × Device
+refusedRequest d b e = (record { answer = Refused e; buffer = b }, d)
 
-abbrev pub servedFlat : StatusAndDevice → Reply × Device
-servedFlat x = (record { answer = Served statusSize; buffer = x .status ∷ 0 ∷ 0 ∷ 0 ∷ [] }, x .left)
+abbrev pub served : StatusAndDevice → Reply × Device
+served x = (record { answer = Served statusSize; buffer = x .status ∷ 0 ∷ 0 ∷ 0 ∷ [] }, x .left)
 
 unfoldable pub unlessRefused : Device → Guest → List ℕ → List ℕ → Option Refusal → Reply × Device
-unlessRefused d g r b (some e) = refusedFlat d b e
-unlessRefused d g r b none = servedFlat (handled d g (asked r))
+unlessRefused d g r b (some e) = refusedRequest d b e
+unlessRefused d g r b none = served (handle d g (asked r))
 
 -- the guest's number, the request's own refusals, then its handler
-unfoldable pub requestFlat : Device → Guest → List ℕ → List ℕ → Reply × Device
-requestFlat d g r b = cond (ltb (g .0) (d .state .settings .guests)) (unlessRefused d g r b (firstFailing (requestRefusals r (length b)))) (refusedFlat d b NoSuchGuest)
+unfoldable pub serve : Device → Guest → List ℕ → List ℕ → Reply × Device
+serve d g r b = cond (ltb (g .0) (d .state .settings .guests)) (unlessRefused d g r b (firstFailing (requestRefusals r (length b)))) (refusedRequest d b NoSuchGuest)

@@ -22,9 +22,9 @@ inWords (Refused e) = Refused e
 inWords (Blocked c) = Blocked c
 
 -- the decision, where the endpoints listed have places
-abbrev pub answered : Device → Access → Answer
-answered d a = cond (leb (d .state .listed) maxEndpoints) (inWords (decision d a)) (Refused Unsound)
+abbrev pub translate : Device → Access → Answer
+translate d a = cond (leb (d .state .listed) maxEndpoints) (inWords (decision d a)) (Refused Unsound)
 
 -- an access: its answer, and the device with its fault logged where it is blocked
 abbrev pub accessWhole : Device → Access → Reply × Device
-accessWhole d a = (record { answer = answered d a; buffer = [] }, device (afterAccess (d .state) a (answered d a)) (d .table))
+accessWhole d a = (record { answer = translate d a; buffer = [] }, device (afterAccess (d .state) a (translate d a)) (d .table))

@@ -1,7 +1,7 @@
 // Replays a journal from standard input and prints its lines: reads, lets `crates/journal_blocks` advance, writes.
 ghost use Rattle.io.specs.Counts.{Counts};
-use rules::sizes::TABLE_WORDS;
 use journal_blocks::Progress;
+use rules::sizes::TABLE_WORDS;
 
 // Where the loop stands: how far the journal has come, and whether it stops there.
 struct Round {

@@ -3,10 +3,10 @@ ghost use mathlib.Core.Path.{_≡_};
 ghost use Rattle.rules.specs.declared.State.{State};
 ghost use Rattle.state_fields.specs.Fields.{withLogs};
 ghost use Rattle.state_log.specs.Dropped.{faultsDropped};
+use crate::shifting::shift_faults;
 use rules::Guest;
 use rules::sizes::FAULT_PLACES;
 use rules::sizes::MAX_GUESTS;
-use crate::shifting::shift_faults;
 use state_fields::least;
 
 // A guest's k oldest faults go; all of them where it has no more than k.

@@ -6,9 +6,9 @@ ghost use lib.ListN.{length, take, drop};
 ghost use Rattle.rules.specs.Table.{records, words, before};
 ghost use Rattle.table_record.specs.Records.{spare};
 ghost use Rattle.table_insert.specs.Inserted.{mappingIndex, insertAt, insertedWords};
-use table_record::write;
 use rules::Mapping;
 use rules::sizes::RECORD_WORDS;
+use table_record::write;
 
 // Whether r goes before s.
 fn precedes(r: Mapping, s: Mapping) -> bool

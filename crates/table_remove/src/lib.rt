@@ -5,9 +5,9 @@ ghost use lib.ListN.{length, take, drop, replicate};
 ghost use Rattle.rules.specs.Sizes.{recordWords};
 ghost use Rattle.rules.specs.Table.{records, words};
 ghost use Rattle.table_remove.specs.Removed.{within, keptOf, removedWords};
-use table_record::write;
 use rules::Mapping;
 use rules::sizes::RECORD_WORDS;
+use table_record::write;
 
 // Whether r has a key from low to high and lies inside the addresses from a to b.
 fn is_within(r: Mapping, low: u64, high: u64, a: u64, b: u64) -> bool

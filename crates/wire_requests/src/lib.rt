@@ -3,5 +3,6 @@ mod lengths;
 
 pub use lengths::readable_length;
 pub use lengths::writable_length;
+
 pub mod request;
 pub mod status;

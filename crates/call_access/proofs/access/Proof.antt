@@ -7,7 +7,7 @@ use Rattle.rules.specs.declared.Answer.{Answer}
 use Rattle.rules.specs.declared.Answer.the-variants.{Blocked}
 use Rattle.rules.specs.Device.{access-by, step}
 use Rattle.refinement.specs.Flat.{device, afterAccess}
-use Rattle.refinement.specs.Translating.{answered}
+use Rattle.refinement.specs.Translating.{translate}
 use Rattle.call_access.proofs.Decisions.{logs-nothing}
 use Rattle.call_access.proofs.Stepping.{access-unsound, access-works}
 use Rattle.call_access.proofs.access.Statement.{statement}
@@ -17,7 +17,7 @@ abbrev start : tie.After-is-sound → tie.Start
 start c = c .before .before .before .before .before .before .before .before .before .before .before .before .before .before
 
 -- where the test has passed, whoever has the answer has the step
-works : (c : tie.Else1) (x : Answer) → (let a = start (c .before) .args in x ≡ answered (device (a .t1) (a .t .now)) (a .a) → (r : State) → r ≡ afterAccess (a .t1) (a .a) x → (record { answer = x; buffer = [] }, device r (a .t .now)) ≡ step (device (a .t1) (a .t .now)) (access-by (a .a)))
+works : (c : tie.Else1) (x : Answer) → (let a = start (c .before) .args in x ≡ translate (device (a .t1) (a .t .now)) (a .a) → (r : State) → r ≡ afterAccess (a .t1) (a .a) x → (record { answer = x; buffer = [] }, device r (a .t .now)) ≡ step (device (a .t1) (a .t .now)) (access-by (a .a)))
 works c x e r z =
     let a = start (c .before) .args in
     let i = c .before .is-sound in

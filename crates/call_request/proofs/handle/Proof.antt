@@ -1,27 +1,27 @@
 -- `call_request::handle` meets its contract. Assumes nothing.
 use borrow.Author.Needs.{needs}
 use Rattle.state_fields.specs.Fields.{withSettings, withEndpoints}
-use Rattle.refinement.specs.Requesting.{handled}
+use Rattle.refinement.specs.Requesting as requesting
 use Rattle.call_request.proofs.handle.Statement.{statement}
 use Rattle.call_request.proofs.handle.Tie as tie
 
 returns : tie.Need-returns
-unfolding handled
+unfolding requesting.handle
 returns c s = rw (c .enum-told .given .1)
 
 returns-2 : tie.Need-returns-2
-unfolding handled
+unfolding requesting.handle
 returns-2 c s = rw (c .before .before .before .before .before .before .before .q .given .1) (c .before .before .handle-attach .ensures s)
 
 returns-3 : tie.Need-returns-3
-unfolding handled
+unfolding requesting.handle
 returns-3 c s =
     let a = c .before .before .before .before .before .before .before .before .before .before .args in
     let here = withSettings (a .settings) (withEndpoints (a .listed) (a .endpoints .now) (a .owners .now) (a .attached .now) (a .domains .now) (a .live) s) in
     rw (c .before .before .before .before .before .before .before .q2 .given .1) (c .before .before .handle-detach .ensures here)
 
 returns-4 : tie.Need-returns-4
-unfolding handled
+unfolding requesting.handle
 returns-4 c s =
     let a = c .before .before .before .before .before .before .before .before .before .before .before .args in
     let here = withSettings (a .settings) (withEndpoints (a .listed) (a .endpoints .now) (a .owners .now) (a .attached .now) (a .domains .now) (a .live) s) in
@@ -29,7 +29,7 @@ returns-4 c s =
     rw (c .before .before .before .before .before .before .before .before .q3 .given .1, ← k .ensures) (c .before .before .handle-map .ensures here)
 
 returns-5 : tie.Need-returns-5
-unfolding handled
+unfolding requesting.handle
 returns-5 c s =
     let a = c .before .before .before .before .before .before .before .before .before .before .args in
     let here = withSettings (a .settings) (withEndpoints (a .listed) (a .endpoints .now) (a .owners .now) (a .attached .now) (a .domains .now) (a .live) s) in
