@@ -4,7 +4,7 @@ ghost use lib.ListN.{length};
 ghost use mathlib.Core.Path.{_≡_};
 ghost use Rattle.sound.specs.Assembled.{deviceWith};
 ghost use Rattle.state_fields.specs.Assembled.{stateWith};
-ghost use Rattle.journal_session.specs.Steps.{recordRoom, running, step_record};
+ghost use Rattle.journal_session.specs.Steps.{recordRoom, running, stepRecord};
 ghost use Rattle.journal_session.specs.Matching.{Matches};
 ghost use Rattle.journal_run.specs.Running.{Ready, ranTo};
 use crate::calls::RunStep;
@@ -55,7 +55,7 @@ pub(crate) fn work_record<'a>(
     ensures { λ r. ⌜ Matches
         (ranTo (stateWith settings listed (r .live) (now (endpoints .entry)) (now (owners .entry)) (now (attached .exit)) (now (domains .exit)) (now (logged .exit)) (now (lost .exit)) (now (reasons .exit)) (now (flags .exit)) (now (sources .exit)) (now (addresses .exit))) r)
         (now (t .exit)) (now (out .entry)) (now (out .exit)) at
-        (step_record (running (stateWith settings listed live (now (endpoints .entry)) (now (owners .entry)) (now (attached .entry)) (now (domains .entry)) (now (logged .entry)) (now (lost .entry)) (now (reasons .entry)) (now (flags .entry)) (now (sources .entry)) (now (addresses .entry)))) (now (t .entry)) (now (b .entry))) ⌝ }
+        (stepRecord (running (stateWith settings listed live (now (endpoints .entry)) (now (owners .entry)) (now (attached .entry)) (now (domains .entry)) (now (logged .entry)) (now (lost .entry)) (now (reasons .entry)) (now (flags .entry)) (now (sources .entry)) (now (addresses .entry)))) (now (t .entry)) (now (b .entry))) ⌝ }
 {
     match journal_records::front(b) {
         Item::Cut => unread(live, false),
