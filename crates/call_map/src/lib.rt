@@ -44,7 +44,7 @@ fn first_map(missing: bool, failing: bool, form: u8, meets: bool, full: bool) ->
     OK
 }
 
-// The same number.
+// A number at the wider type.
 fn wide(x: u32) -> usize
     ensures { λ r. ⌜ r ≡ x ⌝ }
 {

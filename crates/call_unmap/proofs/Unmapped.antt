@@ -8,7 +8,7 @@ use Rattle.rules.specs.declared.State.{State}
 use Rattle.rules.specs.Table.{keyOf}
 use Rattle.refinement.specs.Flat.{device, withStatus, removed, unmapStatus}
 use Rattle.refinement.specs.Flat as flat
-use Rattle.refinement.proofs.Rounds.{settled-fails, settled-works}
+use Rattle.refinement.proofs.Settled.{settled-fails, settled-works}
 
 module _ (s : State) (ws : List ℕ) (g : Guest) (d : Domain) (a b z x : ℕ) (e : x ≡ unmapStatus (device s ws) g d a b z) where
   pub unmap-refused : (x ≡ 0 → ⊥) → withStatus x (device s ws) ≡ flat.handleUnmap (device s ws) g d a b z

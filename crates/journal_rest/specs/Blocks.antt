@@ -9,7 +9,7 @@ use lib.ListN.{length, take, drop}
 unfoldable pub keptCount : ℕ → ℕ → List ℕ → ℕ
 keptCount from held block = cond (leb held (length block) && leb from held) (held - from) 0
 
--- those bytes at the front; the other places as they were
+-- the bytes from place `from` to `held` moved to the front; the other places as they were
 unfoldable pub kept : ℕ → ℕ → List ℕ → List ℕ
 kept from held block =
     take (keptCount from held block) (drop from block) ++ drop (keptCount from held block) block

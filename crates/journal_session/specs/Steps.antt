@@ -125,6 +125,6 @@ stepOf p t s (Fetch g n) = allowed (p .started) p t (fetchStep p t s g n)
 unfoldable pub stepRecord : Session → List ℕ → List ℕ → RecordStep
 stepRecord p t s = stepOf p t s (front s)
 
--- the same where a buffer of so many bytes has room for the lines of one record from place k on; else none is worked
+-- the record at the front of s, where a buffer of so many bytes has room for the lines of one record from place k on; else none is worked
 unfoldable pub stepIn : ℕ → ℕ → Session → List ℕ → List ℕ → RecordStep
 stepIn room k p t s = cond (leb (k + recordRoom) room) (stepRecord p t s) (unread p t false)

@@ -21,6 +21,6 @@ lineRoom = 64
 unfoldable pub written : ℕ → ℕ → List ℕ → List ℕ → List ℕ
 written room k line out = cond (leb (k + room) (length out)) (placed k line out) out
 
--- and how many bytes that is
+-- how many bytes of a line are put at place k: all where there is room for so many, else none
 unfoldable pub writtenCount : ℕ → ℕ → List ℕ → List ℕ → ℕ
 writtenCount room k line out = cond (leb (k + room) (length out)) (length line) 0

@@ -80,7 +80,7 @@ abbrev pub rest : {A : Type 0} → List A → List A
 rest [] = []
 rest (x ∷ l) = l
 
--- the same list with the elements of owner g replaced, in order, by those of p
+-- a list with the elements of owner g replaced, in order, by those of p
 abbrev pub weaveBy : {A : Type 0} → ℕ → List ℕ → List A → List A → List A
 weaveBy g [] l p = l
 weaveBy g (o ∷ os) [] p = []

@@ -4,7 +4,7 @@ pub mod Logs
 pub mod Leaving
 pub mod Statuses
 pub mod Requested
-pub mod Rounds
+pub mod Settled
 pub mod Stepped
 pub mod Answered
 pub mod Started

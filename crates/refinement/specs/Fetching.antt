@@ -34,6 +34,6 @@ fetchFaults guests s g buffer =
     (cond (logFits s g) (fetched s g (fetchCount s g (length buffer)) buffer) (unfetched s Unsound buffer))
     (unfetched s NoSuchGuest buffer)
 
--- the same on the device, whose table stays
+-- a fetch for guest g, of so many guests, on a device, whose table stays
 abbrev pub fetchedWhole : ℕ → Device → Guest → List ℕ → Reply × Device
 fetchedWhole guests d g buffer = (fetchFaults guests (d .state) g buffer .0, device (fetchFaults guests (d .state) g buffer .1) (d .table))

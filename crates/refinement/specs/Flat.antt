@@ -81,16 +81,17 @@ inserted d r = device (withLive (suc (d .state .live)) (d .state)) (insertedWord
 
 -- ATTACH AND DETACH
 
--- the endpoint at place i leaves domain dom
+-- the endpoint at place i leaves domain dom; with its last endpoint the domain's records go
 unfoldable pub left : Device → Guest → ℕ → Domain → Device
 left d g i dom =
     cond (domainExists (attachedAt (d .state) i 0 noDomain) g dom) (device (attachedAt (d .state) i 0 noDomain) (d .table))
     (removed (device (attachedAt (d .state) i 0 noDomain) (d .table)) (keyOf g dom) (keyOf g dom) 0 topAddress)
 
--- and enters one
+-- the endpoint at place i enters domain dom
 unfoldable pub entered : Device → ℕ → Domain → Device
 entered d i dom = device (attachedAt (d .state) i 1 dom) (d .table)
 
+-- the endpoint at place i moves to domain dom, out of the one that it was in
 unfoldable pub moved : Device → Guest → ℕ → Domain → Device
 moved d g i dom =
     cond (isAttached (d .state) i)
@@ -127,10 +128,11 @@ mapStatus d g dom r =
     (any? (overlap r) (liveRecords d))
     (leb (share (d .state .settings) (g .0)) (length (recordsOf g (liveRecords d)))))
 
+-- MAP, where one record more can be counted
 unfoldable pub mapCounted : Device → Guest → Domain → Mapping → StatusAndDevice
 mapCounted d g dom r = settled (mapStatus d g dom r) d (inserted d r)
 
--- the same where the guest has a place and one record more can be counted, as in a sound device; else a device error
+-- MAP: a device error where the guest has no place or one record more can't be counted, which a sound device rules out
 unfoldable pub handleMap : Device → Guest → Domain → Mapping → StatusAndDevice
 handleMap d g dom r = cond (ltb (g .0) maxGuests && ltb (d .state .live) topAddress) (mapCounted d g dom r) (withStatus DEVERR d)
 
@@ -143,8 +145,13 @@ handleUnmap d g dom a b reserved = settled (unmapStatus d g dom a b reserved) d 
 
 -- RESET
 
+-- the records of every domain of guest g go
+abbrev pub recordsCleared : Device → Guest → Device
+recordsCleared d g = removed d (g .0 * domainSpan) (g .0 * domainSpan + (domainSpan - 1)) 0 topAddress
+
+-- guest g's endpoints are detached, its log is empty, its lost count 0, and its records are gone
 unfoldable pub resetGuest : Device → Guest → Device
-resetGuest d g = removed (device (guestCleared (d .state) g) (d .table)) (g .0 * domainSpan) (g .0 * domainSpan + (domainSpan - 1)) 0 topAddress
+resetGuest d g = recordsCleared (device (guestCleared (d .state) g) (d .table)) g
 
 -- ACCESS
 

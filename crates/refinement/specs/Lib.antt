@@ -1,7 +1,7 @@
 pub mod Flat
-pub mod Translating
 pub mod Requesting
-pub mod Replied
-pub mod Setting
+pub mod Translating
 pub mod Resetting
 pub mod Fetching
+pub mod Replied
+pub mod Setting

@@ -107,7 +107,7 @@ attachChain reserved unlisted beyond =
     ∷ (beyond, RANGE)
     ∷ []
 
--- its tests, in order
+-- the tests of ATTACH, in order
 abbrev pub attachSteps : Own → Domain → Endpoint → ℕ → Steps
 attachSteps o d e reserved =
     attachChain
@@ -132,7 +132,7 @@ detachChain reserved unlisted elsewhere =
     ∷ (elsewhere, INVAL)
     ∷ []
 
--- its tests, in order
+-- the tests of DETACH, in order
 abbrev pub detachSteps : Own → Part → Domain → Endpoint → ℕ → Steps
 detachSteps o p d e reserved =
     detachChain
@@ -196,7 +196,7 @@ mapChain missing form meets full =
     ∷ (full, NOMEM)
     ∷ []
 
--- its tests, in order
+-- the tests of MAP, in order
 abbrev pub mapSteps : Own → Part → Domain → Mapping → Steps
 mapSteps o p d r =
     mapChain
@@ -232,7 +232,7 @@ unmapChain missing reserved order cut =
     ∷ (cut, RANGE)
     ∷ []
 
--- its tests, in order
+-- the tests of UNMAP, in order
 abbrev pub unmapSteps : Own → Part → Domain → ℕ → ℕ → ℕ → Steps
 unmapSteps o p d a b reserved =
     unmapChain

@@ -107,7 +107,7 @@ logTests s =
 unfoldable pub recordGood : Own → List Attachment → Mapping → Bool
 recordGood o l r = passes (firstFailing (recordSteps o l (domainOf r) r))
 
--- the same, for the guest that its first word names
+-- a record would pass steps 1 to 6 of MAP for the guest and the domain that its first word names
 abbrev pub recordPasses : Config → World → Mapping → Bool
 recordPasses c w r = recordGood (own c (guest (guestOf r))) (part c (guest (guestOf r)) w .attachments) r
 

@@ -22,7 +22,7 @@ pub(crate) fn none_logged(logged: &[usize; MAX_GUESTS]) -> bool
     ok
 }
 
-// The same number.
+// A number at the wider type.
 fn wide(x: u8) -> u32
     ensures { λ r. ⌜ r ≡ x ⌝ }
 {

@@ -73,7 +73,7 @@ pub(crate) fn hints_of(endpoints: &[u32]) -> [u8; SLOTS]
     hints
 }
 
-// The same as is_listed: first the place that the hint names is looked at, then all.
+// What is_listed gives: first the place that the hint names is looked at, then all.
 pub(crate) fn is_named<'a>(
     endpoints: &'a [u32],
     owners: &'a [u32],

@@ -33,7 +33,7 @@ fn endpoint_good(
         | (!used & ((e.0 == 0) & ((owner.0 == 0) & ((flag == 0) & (d.0 == 0)))))
 }
 
-// Whether this holds at every endpoint's place, where the first n are in use.
+// Whether the numbers at every endpoint's place are good, where the first n are in use.
 pub(crate) fn endpoints_good<'a>(
     range: DomainRange,
     n: usize,

@@ -17,7 +17,7 @@ fn guest_good(used: bool, share: u32, first: u64, last: u64, count: usize, lost:
         | (!used & ((share == 0) & ((first == 0) & ((last == 0) & ((count == 0) & (lost == 0))))))
 }
 
-// Whether this holds at every guest's place.
+// Whether the numbers at every guest's place are good.
 pub(crate) fn guests_good<'a>(settings: Settings, logged: &'a [usize], lost: &'a [u32]) -> bool
     requires { ⌜ (length (now logged) ≡ maxGuests) × (length (now lost) ≡ maxGuests) ⌝ }
     ensures { λ r. ⌜ r ≡ below maxGuests (guestPlace settings (now (logged .entry)) (now (lost .entry))) ⌝ }

@@ -73,7 +73,7 @@ pub(crate) fn hints_of<'a>(
     hints
 }
 
-// The same as domain_good: first the place that the hint names is looked at, then all.
+// What domain_good gives: first the place that the hint names is looked at, then all.
 pub(crate) fn domain_held<'a>(
     n: usize,
     owners: &'a [u8],

@@ -23,13 +23,13 @@ unfoldable pub endpointsDetached : State → Guest → State
 endpointsDetached s g =
     withAttached (zeroedOf (min (s .listed) maxEndpoints) g (s .owners) (s .attached)) (zeroedOf (min (s .listed) maxEndpoints) g (s .owners) (s .domains)) s
 
--- its log empty, its lost count 0; nothing for a guest number that has no place
+-- guest g's log empty, its lost count 0; nothing changes for a guest number that has no place
 unfoldable pub logCleared : State → Guest → State
 logCleared s g =
     cond (ltb (g .0) maxGuests)
     (withLogs (set (s .logged) (g .0) 0) (set (s .lost) (g .0) 0) (shiftedAll g maxFaults (s .reasons)) (shiftedAll g maxFaults (s .flags)) (shiftedAll g maxFaults (s .sources)) (shiftedAll g maxFaults (s .addresses)) s)
     s
 
--- both
+-- guest g's endpoints detached, its log empty, its lost count 0
 unfoldable pub guestCleared : State → Guest → State
 guestCleared s g = endpointsDetached (logCleared s g) g

@@ -18,7 +18,8 @@ fn is_met(r: Mapping, key: u64, a: u64, b: u64, inner: bool) -> bool
         & (inner | !((r.key == key) & ((a <= r.start) & (r.end <= b))))
 }
 
-// Whether one of the first live records is such a one.
+// Whether one of the first live records is of the key's domain and has an address in common with those from a to b; one that lies
+// inside them only if those inside count.
 fn any_met(t: &[u64], live: usize, key: u64, a: u64, b: u64, inner: bool) -> bool
     ensures { λ x. ⌜ x ≡ any? (met key a b inner) (take live (records (now (t .entry)))) ⌝ }
 {

@@ -13,7 +13,7 @@ use Rattle.rules.specs.Table.{records, words}
 abbrev pub within : ℕ → ℕ → ℕ → ℕ → Mapping → Bool
 within low high a b r = (leb low (r .key) && leb (r .key) high) && (leb a (r .start) && leb (r .end) b)
 
--- those of the first live records that a removal keeps
+-- the records, of the first live ones, that a removal keeps
 unfoldable pub keptOf : ℕ → ℕ → ℕ → ℕ → ℕ → List ℕ → List Mapping
 keptOf live low high a b ws = keep (λ r. not (within low high a b r)) (take live (records ws))
 

@@ -8,10 +8,10 @@ use rules::requests::UNMAP;
 use rules::sizes::STATUS_SIZE;
 
 // The number of bytes that a request of this type has in its readable part.
-pub fn readable_length(kind: u8) -> usize
-    ensures { λ r. ⌜ r ≡ readableLength kind ⌝ }
+pub fn readable_length(request_type: u8) -> usize
+    ensures { λ r. ⌜ r ≡ readableLength request_type ⌝ }
 {
-    match kind {
+    match request_type {
         ATTACH => 20,
         DETACH => 20,
         MAP => 36,
@@ -21,10 +21,10 @@ pub fn readable_length(kind: u8) -> usize
 }
 
 // The number of bytes that a request of this type has in its writable part.
-pub fn writable_length(kind: u8) -> usize
-    ensures { λ r. ⌜ r ≡ writableLength kind ⌝ }
+pub fn writable_length(request_type: u8) -> usize
+    ensures { λ r. ⌜ r ≡ writableLength request_type ⌝ }
 {
-    match kind {
+    match request_type {
         ATTACH..=UNMAP => STATUS_SIZE,
         0 | 5..=255 => 0,
     }

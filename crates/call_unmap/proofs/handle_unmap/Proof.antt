@@ -1,7 +1,7 @@
 -- `call_unmap::handle_unmap` meets its contract. Assumes nothing.
 use borrow.Author.Needs.{needs}
 use Rattle.state_fields.specs.Fields.{withDomains}
-use Rattle.refinement.proofs.Rounds.{removed-is}
+use Rattle.refinement.proofs.Settled.{removed-is}
 use Rattle.call_unmap.proofs.Unmapped.{unmap-refused, unmap-done}
 use Rattle.call_unmap.proofs.handle_unmap.Statement.{statement}
 use Rattle.call_unmap.proofs.handle_unmap.Tie as tie

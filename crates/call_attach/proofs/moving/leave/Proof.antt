@@ -1,7 +1,7 @@
 -- `call_attach::leave` meets its contract. Assumes nothing.
 use borrow.Author.Needs.{needs}
 use Rattle.state_fields.specs.Fields.{withDomains}
-use Rattle.refinement.proofs.Rounds.{removed-is}
+use Rattle.refinement.proofs.Settled.{removed-is}
 use Rattle.call_attach.proofs.Leaving.{left-stays, left-goes}
 use Rattle.call_attach.proofs.moving.leave.Statement.{statement}
 use Rattle.call_attach.proofs.moving.leave.Tie as tie
