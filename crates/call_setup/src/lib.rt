@@ -1,7 +1,10 @@
 // Set-up: the state that a configuration starts with.
 ghost use mathlib.Core.Path.{_≡_};
+ghost use lib.ListN.{length};
+ghost use Rattle.laws.specs.Lists.{pad};
+ghost use Rattle.rules.specs.Sizes.{maxEndpoints};
 ghost use Rattle.rules.specs.Configuration.{good};
-ghost use Rattle.rules.specs.State.{trimmed, stateOf, start, zeroState};
+ghost use Rattle.rules.specs.State.{trimmed, zeroState};
 ghost use Rattle.rules.specs.Device.{setUp};
 ghost use Rattle.refinement.specs.Setting.{configured, started};
 use refinement::CallResult;
@@ -64,28 +67,28 @@ fn trim(s: Settings) -> Settings
     next
 }
 
-// The state that a configuration starts with: all unattached, logs empty, and zero in the places after the last endpoint and
-// the last owner.
-fn start_state(s: Settings, endpoints: &[u32], owners: &[u8]) -> State
-    ensures { λ r. ⌜ r ≡ stateOf (configured s (now (endpoints .entry)) (now (owners .entry))) (start (configured s (now (endpoints .entry)) (now (owners .entry)))) ⌝ }
+// The places hold the endpoints and their owners, and zero after the last endpoint and the last owner.
+fn place_lists(
+    endpoints: &[u32],
+    owners: &[u8],
+    numbers: &mut [u32; MAX_ENDPOINTS],
+    holders: &mut [u8; MAX_ENDPOINTS],
+)
+    requires { ⌜ (length (now numbers) ≡ maxEndpoints) × (length (now holders) ≡ maxEndpoints) ⌝ }
+    ensures { λ _. ⌜ (now (numbers .exit) ≡ pad maxEndpoints 0 (now (endpoints .entry))) × (now (holders .exit) ≡ pad maxEndpoints 0 (now (owners .entry))) ⌝ }
 {
-    let mut numbers: [u32; MAX_ENDPOINTS] = [0; MAX_ENDPOINTS];
-    let mut holders: [u8; MAX_ENDPOINTS] = [0; MAX_ENDPOINTS];
     for i in 0..MAX_ENDPOINTS {
+        let mut number = 0;
+        let mut holder = 0;
         if i < endpoints.len() {
-            numbers[i] = endpoints[i];
+            number = endpoints[i];
         }
         if i < owners.len() {
-            holders[i] = owners[i];
+            holder = owners[i];
         }
+        numbers[i] = number;
+        holders[i] = holder;
     }
-    let settings = trim(s);
-    let mut next = zero_state();
-    next.settings = settings;
-    next.listed = endpoints.len();
-    next.endpoints = numbers;
-    next.owners = holders;
-    next
 }
 
 // Whether the configuration is good.
@@ -118,8 +121,17 @@ pub fn set_up(settings: Settings, endpoints: &[u32], owners: &[u8], t: &mut [u64
         };
     }
     table_remove::clear(t);
+    let mut numbers: [u32; MAX_ENDPOINTS] = [0; MAX_ENDPOINTS];
+    let mut holders: [u8; MAX_ENDPOINTS] = [0; MAX_ENDPOINTS];
+    place_lists(endpoints, owners, &mut numbers, &mut holders);
+    let kept = trim(settings);
+    let mut next = zero_state();
+    next.settings = kept;
+    next.listed = endpoints.len();
+    next.endpoints = numbers;
+    next.owners = holders;
     CallResult {
         answer: Answer::Done,
-        state: start_state(settings, endpoints, owners),
+        state: next,
     }
 }

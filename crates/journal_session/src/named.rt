@@ -27,12 +27,9 @@ pub fn guest(p: Session, s: &[u8], f: GuestFields) -> StepResult
     if settings.guests >= MAX_GUESTS {
         return unread(p, true);
     }
-    consumed(
-        false,
-        naming::name_guest(state, f),
-        journal_records::size_of(s),
-        0,
-    )
+    let mut next = state;
+    next.settings = naming::name_guest(settings, f);
+    consumed(false, next, journal_records::size_of(s), 0)
 }
 
 // An endpoint is named, unless it is the 33rd or the journal has started.
@@ -46,10 +43,12 @@ pub fn endpoint(p: Session, s: &[u8], e: Endpoint, g: Guest) -> StepResult
     if state.listed >= MAX_ENDPOINTS {
         return unread(p, true);
     }
-    consumed(
-        false,
-        naming::name_endpoint(state, e, g),
-        journal_records::size_of(s),
-        0,
-    )
+    let mut endpoints = state.endpoints;
+    let mut owners = state.owners;
+    naming::name_endpoint(&mut endpoints, &mut owners, state.listed, e, g);
+    let mut next = state;
+    next.listed = state.listed + 1;
+    next.endpoints = endpoints;
+    next.owners = owners;
+    consumed(false, next, journal_records::size_of(s), 0)
 }

@@ -1,12 +1,13 @@
 // The configuration that a journal names, and the start.
 ghost use mathlib.Core.Path.{_≡_};
-ghost use Prim.Native.Nat.{_<_, _≤_, min};
+ghost use Prim.Native.Nat.{_+_, _<_, _≤_, min};
 ghost use lib.ListN.{length, take};
 ghost use Rattle.rules.specs.Sizes.{maxGuests, maxEndpoints};
+ghost use Rattle.rules.specs.declared.State as declared;
 ghost use Rattle.rules.specs.State.{configOf};
 ghost use Rattle.rules.specs.Device.{setUp};
 ghost use Rattle.refinement.specs.Setting.{configured, started};
-ghost use Rattle.state_fields.specs.Fields.{withSettings};
+ghost use Rattle.state_fields.specs.Fields.{withSettings, withLists};
 ghost use Rattle.journal_session.specs.Naming.{guestNamed, endpointNamed, rangesNamed};
 use journal_records::GuestFields;
 use journal_records::StartFields;
@@ -18,32 +19,32 @@ use rules::State;
 use rules::sizes::MAX_ENDPOINTS;
 
 // One guest more.
-pub(crate) fn name_guest(s: State, f: GuestFields) -> State
-    requires { ⌜ s .settings .guests < maxGuests ⌝ }
-    ensures { λ r. ⌜ r ≡ withSettings (guestNamed f (s .settings)) s ⌝ }
+pub(crate) fn name_guest(s: Settings, f: GuestFields) -> Settings
+    requires { ⌜ s .guests < maxGuests ⌝ }
+    ensures { λ r. ⌜ r ≡ guestNamed f s ⌝ }
 {
-    let mut settings = s.settings;
-    let n = settings.guests;
-    settings.shares[n] = f.share;
-    settings.firsts[n] = f.first;
-    settings.lasts[n] = f.last;
-    settings.guests = n + 1;
+    let n = s.guests;
     let mut next = s;
-    next.settings = settings;
+    next.shares[n] = f.share;
+    next.firsts[n] = f.first;
+    next.lasts[n] = f.last;
+    next.guests = n + 1;
     next
 }
 
-// One endpoint more.
-pub(crate) fn name_endpoint(s: State, e: Endpoint, g: Guest) -> State
-    requires { ⌜ s .listed < maxEndpoints ⌝ }
-    ensures { λ r. ⌜ r ≡ endpointNamed e g s ⌝ }
+// One endpoint more, after the first n.
+pub(crate) fn name_endpoint<'a>(
+    endpoints: &'a mut [u32; MAX_ENDPOINTS],
+    owners: &'a mut [u8; MAX_ENDPOINTS],
+    n: usize,
+    e: Endpoint,
+    g: Guest,
+)
+    requires { ⌜ n < maxEndpoints ⌝ }
+    ensures { λ _. ⌜ ((s : declared.State) → withLists (n + 1) (now (endpoints .exit)) (now (owners .exit)) s ≡ endpointNamed e g (withLists n (now (endpoints .entry)) (now (owners .entry)) s)) ⌝ }
 {
-    let n = s.listed;
-    let mut next = s;
-    next.endpoints[n] = e.0;
-    next.owners[n] = g.0;
-    next.listed = n + 1;
-    next
+    endpoints[n] = e.0;
+    owners[n] = g.0;
 }
 
 // The settings with the mask and the ranges that a start names.

@@ -7,6 +7,5 @@ pub mod Requested
 pub mod Settled
 pub mod Stepped
 pub mod Answered
-pub mod Started
 pub mod Resetting
 pub mod Fetching

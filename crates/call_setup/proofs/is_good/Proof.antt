@@ -1,6 +1,6 @@
 -- `call_setup::is_good` meets its contract. Assumes nothing.
 use borrow.Author.Needs.{needs}
-use Rattle.refinement.proofs.Started.{good-differ, good-both}
+use Rattle.call_setup.proofs.Started.{good-differ, good-both}
 use Rattle.call_setup.proofs.is_good.Statement.{statement}
 use Rattle.call_setup.proofs.is_good.Tie as tie
 

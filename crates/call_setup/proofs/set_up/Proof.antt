@@ -1,6 +1,6 @@
 -- `call_setup::set_up` meets its contract. Assumes nothing.
 use borrow.Author.Needs.{needs}
-use Rattle.refinement.proofs.Started.{set-up-length, set-up-bad, set-up-done}
+use Rattle.call_setup.proofs.Started.{start-fields, set-up-length, set-up-bad, set-up-done}
 use Rattle.call_setup.proofs.set_up.Statement.{statement}
 use Rattle.call_setup.proofs.set_up.Tie as tie
 
@@ -20,12 +20,28 @@ returns-2 c =
 
 returns-3 : tie.Need-returns-3
 returns-3 c =
-    let k = c .before .before .before .clear in
-    let f = c .before .before .before .before .before in
+    let m = c .before .trim in
+    let p = c .before .before .place-lists in
+    let k = c .before .before .before .before .before .before .before in
+    let f = k .before .before in
     let x = f .before .is-good in
     let e = f .before .before in
     let a = e .before .before .before .before .args in
-    set-up-done (a .settings) (a .endpoints .now) (a .owners .now) (a .t .now) (e .if1 .left) (x .result) (x .ensures) (c .start-state .result) (k .last .0) (f .if2 .left) (k .ensures) (c .start-state .ensures)
+    set-up-done (a .settings) (a .endpoints .now) (a .owners .now) (a .t .now) (e .if1 .left) (x .result) (x .ensures) _ (k .clear .last .0) (f .if2 .left) (k .clear .ensures)
+    (start-fields (a .settings) (a .endpoints .now) (a .owners .now) (c .zero-state3 .result) (m .result) _ _ (c .zero-state3 .ensures) (m .ensures) (p .ensures .0) (p .ensures .1))
 
 pub set-up-spec : {M : Type 1} → statement M
-set-up-spec = tie.close (tie.spec (λ c κs. search needs) returns (λ c κs. search needs) (λ c κs. search needs) returns-2 (λ c κs. search needs) (λ c κs. search needs) (λ c. search needs) returns-3)
+set-up-spec =
+    tie.close
+    (tie.spec
+    (λ c κs. search needs)
+    returns
+    (λ c κs. search needs)
+    (λ c κs. search needs)
+    returns-2
+    (λ c κs. search needs)
+    (λ c κs. search needs)
+    (λ c κs. search needs)
+    (λ c κs. search needs)
+    (λ c. search needs)
+    returns-3)

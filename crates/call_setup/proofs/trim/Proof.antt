@@ -4,7 +4,7 @@ use native.Mathlib.Omega.{arith}
 use borrow.Author.Needs.{needs}
 use Rattle.rules.specs.Sizes.{maxGuests}
 use Rattle.rules.specs.State.{trimmed}
-use Rattle.refinement.proofs.Started.{Kept, kept-start, kept-zero, kept-all}
+use Rattle.call_setup.proofs.Started.{Kept, kept-start, kept-zero, kept-all}
 use Rattle.call_setup.proofs.trim.Statement.{statement}
 use Rattle.call_setup.proofs.trim.Tie as tie
 

@@ -23,10 +23,11 @@ too-many c =
 one-more : tie.Need-returns-3
 unfolding stepOf
 one-more c =
-    let n = c .before .before in
-    let i = n .before in
+    let n = c .before .before .before in
+    let i = n .before .before .before .before .before in
     let a = i .before .before .before .before .before .args in
-    named-more (a .p) (a .p .state .listed) maxEndpoints (a .s .now) _ (i .before .before .if1 .left) (omega arith) _ (c .before .size-of .ensures) (rw (sym (n .name-endpoint .ensures)) (c .consumed .ensures))
+    named-more (a .p) (a .p .state .listed) maxEndpoints (a .s .now) _ (i .before .before .if1 .left) (omega arith) _ (c .before .size-of .ensures)
+    (rw (sym (n .name-endpoint .ensures (a .p .state))) (c .consumed .ensures))
 
 pub endpoint-spec : {M : Type 1} → statement M
 endpoint-spec =
@@ -37,6 +38,7 @@ endpoint-spec =
     (λ c κs. search needs)
     too-many
     (λ c κs. search needs)
+    (λ c. search needs)
     (λ c κs. search needs)
     (λ c κs. search needs)
     one-more)

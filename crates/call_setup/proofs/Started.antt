@@ -4,8 +4,9 @@ use mathlib.Core.Path.{_≡_, refl, sym, ap, _∙_}
 use mathlib.Core.Bool.{Bool, true, false, cond, not, _&&_}
 use mathlib.Core.List.{List}
 use mathlib.Core.Option.{none}
+use native.Mathlib.Omega.{arith}
 use lib.Dec.{ltb}
-use lib.ListN.{length, getD, set, take, replicate, List·getD-eq-default}
+use lib.ListN.{length, getD, set, take, replicate}
 use lib.Seq.{take-length}
 use borrow.Author.Tests.{lt-ltb, le-ltb, eq-eqb, ne-eqb}
 use Rattle.laws.specs.Lists.{tab, pad}
@@ -18,9 +19,9 @@ use Rattle.rules.specs.Sizes.{maxGuests, maxEndpoints, maxFaults, faultPlaces, 
 use Rattle.rules.specs.Configuration.{goodSettings, goodLists, good}
 use Rattle.rules.specs.State.{Attachment, Log, noFault, noLog, flagOf, numberOf, trimmed, stateOf, start, zeroState}
 use Rattle.rules.specs.Device.{setUp}
-use Rattle.state_fields.proofs.Rewriting.{Written, written-store, written-keep, written-all}
+use Rattle.state_fields.proofs.Rewriting.{Written, written-store, written-all}
 use Rattle.refinement.specs.Flat.{device}
 use Rattle.refinement.specs.Setting.{configured}
 
 -- LOOPS
 
@@ -48,19 +49,16 @@ all-same zero z i = refl
 all-same (suc n) z zero = refl
 all-same (suc n) z (suc i) = all-same n z i
 
--- of the places for endpoints, those below i hold what stands there in a list, zero where the list has ended
-abbrev pub Padded : List ℕ → ℕ → List ℕ → Type 0
-Padded l i out = Written (λ j. getD l j 0) (replicate maxEndpoints 0) i out
+-- of places for endpoints that held d, those below i hold what stands there in a list, zero where the list has ended
+abbrev pub Padded : List ℕ → List ℕ → ℕ → List ℕ → Type 0
+Padded l d i out = Written (λ j. getD l j 0) d i out
 
-module _ (l : List ℕ) {i : ℕ} {out : List ℕ} (w : Padded l i out) where
-  pub pad-in : i < maxEndpoints → Padded l (i + 1) (set out i (getD l i 0))
-  pad-in h = written-store (λ j. getD l j 0) (replicate maxEndpoints 0) i out (getD l i 0) w h refl
-
-  pub pad-past : length l ≤ i → Padded l (i + 1) out
-  pad-past h = written-keep (λ j. getD l j 0) (replicate maxEndpoints 0) i out w (all-same maxEndpoints 0 i ∙ sym (List·getD-eq-default l 0 h))
+module _ (l d : List ℕ) (e : length d ≡ maxEndpoints) {i : ℕ} {out : List ℕ} (w : Padded l d i out) where
+  pub pad-one : (v : ℕ) → i < maxEndpoints → v ≡ getD l i 0 → Padded l d (i + 1) (set out i v)
+  pad-one v h = written-store (λ j. getD l j 0) d i out v w (omega (arith, e))
 
   pub pad-all : maxEndpoints ≤ i → out ≡ pad maxEndpoints 0 l
-  pad-all h = written-all (λ j. getD l j 0) (replicate maxEndpoints 0) maxEndpoints i out refl h w
+  pad-all h = written-all (λ j. getD l j 0) d maxEndpoints i out e h w
 
 -- THE START STATE
 
@@ -109,7 +107,7 @@ start-fields s es os z t a b e f g h =
       unlogged k faultPlaces (λ i l. getD (l .faults) (i % maxFaults) noFault .address) (λ i. i / maxFaults) (λ i. refl),
     )
 
--- SET-UP'S REstepRecordS
+-- SET-UP'S RETURNS
 
 nothing : (a : Bool) → false ≡ (a && false)
 nothing true = refl
