@@ -1,4 +1,4 @@
--- The loop over the records of a part: what has been worked so far, and the turns that carry it on and end it.
+-- The loop over the records of a part: what has been worked so far, and the steps that carry it on and end it.
 use Prim.Native.Nat.{ℕ, _+_, _-_, _≤_, _<_}
 use mathlib.Core.Path.{_≡_, refl, sym, ap, _∙_}
 use mathlib.Core.Bool.{false}
@@ -78,11 +78,11 @@ tells-rest {out = out} {m = m} {k = k} {x = x} tells =
 
 -- THE LOOP
 
--- bytes read and lines put so far, as a turn's first part
+-- bytes read and lines put so far, as a step's first part
 abbrev so : Session → List ℕ → ℕ → List ℕ → RecordStep
 so p t n line = record { session = p; table = t; read = n; printed = line; bad = false }
 
--- what was so far, a turn, and what follows
+-- what was so far, a step, and what follows
 regroup : (p : Session) (t line : List ℕ) (n : ℕ) (x y : RecordStep) → joined (so p t n line) (joined x y) ≡ joined (so (x .session) (x .table) (n + x .read) (line ++ x .printed)) y
 regroup p t line n x y = rw (add-assoc n (x .read) (y .read), append-assoc line (x .printed) (y .printed))
 
@@ -132,7 +132,7 @@ module _ (p₀ : Session) (t₀ s start : List ℕ) where
           lines = rw (sym (after .1)) (placed-first start out′ (printed + length (x .printed)) (omega (arith, after .0, whole)) (after .2));
         })
 
-  -- one more turn
+  -- one more step
   module _ (p : Session) (t out : List ℕ) (read printed : ℕ) (w : Went p t out read printed) (room : recordRoom ≤ length start - printed) (r : StepResult) (t′ out′ : List ℕ) (tells : Matches r t′ out out′ printed (stepRecord p t (drop read s))) (whole : length out′ ≡ length start) where
     abbrev X : RecordStep
     X = stepRecord p t (drop read s)

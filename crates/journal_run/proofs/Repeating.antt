@@ -17,7 +17,7 @@ either-same : {A : Type 0} (b : Bool) (x y z : A) → (b ≡ false → y ≡ z) 
 either-same true x y z f = refl
 either-same false x y z f = f refl
 
--- more turns than there are bytes change nothing
+-- more steps than there are bytes change nothing
 pub enough : (n m room : ℕ) (p : Session) (t s : List ℕ) → length s < n → length s < m → playedFor n room p t s ≡ playedFor m room p t s
 unfolding playedFor
 enough zero m room p t s a b = absurd (omega arith)

@@ -36,7 +36,7 @@ use Rattle.refinement.specs.Translating.{accessWhole}
 use Rattle.refinement.specs.Resetting.{resetWhole}
 use Rattle.refinement.specs.Fetching.{fetchedWhole}
 
--- a player that has started runs
+-- a session that has started runs
 pub runs : (p : Session) → p .started ≡ true → running (p .state) ≡ p
 runs p e = ap (λ (z : Bool). record { started = z; state = p .state }) (sym e)
 

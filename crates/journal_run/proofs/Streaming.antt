@@ -22,10 +22,10 @@ use Rattle.journal_records.proofs.Fields.{front-none}
 use Rattle.journal_step.proofs.Reading.{step-reads}
 use Rattle.journal_run.proofs.Longer.{isCut, same-choice, step-more}
 
--- A stepRecord THAT READS NOTHING
+-- A STEP THAT READS NOTHING
 
 module _ (p : Session) (t s : List ℕ) where
-  -- a turn that reads nothing changes nothing, and is bad unless the record is cut
+  -- a step that reads nothing changes nothing, and is bad unless the record is cut
   pub record Unread (i : Item) (x : RecordStep) : Type 0 where
     pub same : x ≡ unread p t (x .bad)
     pub cut : x .bad ≡ not (isCut i)
@@ -50,7 +50,7 @@ module _ (p : Session) (t s : List ℕ) where
   unfolding stepRecord
   step-unread h = is-unread (front s) h
 
--- a turn on a record that is cut reads nothing
+-- a step on a record that is cut reads nothing
 cut-item : (p : Session) (t s : List ℕ) (i : Item) → isCut i ≡ true → stepOf p t s i .read ≡ 0
 unfolding stepOf
 cut-item p t s Cut h = refl
@@ -76,7 +76,7 @@ there s h =
 
 -- THE WHOLE OUTPUT, STEP BY STEP
 
--- more turns than there are bytes change nothing
+-- more steps than there are bytes change nothing
 outputs-enough : (n m at : ℕ) (p : Session) (t s : List ℕ) → length s < n → length s < m → outputFor n at p t s ≡ outputFor m at p t s
 unfolding outputFor
 outputs-enough zero m at p t s a b = absurd (omega arith)

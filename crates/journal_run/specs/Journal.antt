@@ -12,7 +12,7 @@ use Rattle.journal_session.specs.Steps.{recordRoom, RecordStep, stepRecord, fre
 
 -- what the rest s of a journal prints, from offset `at` on: "prints `bad journal at N` (N the kind byte's offset, decimal) and
 -- stops. A journal read to its end, an empty one too, prints `E` last." Each record has a byte at least, so more than
--- length s turns are enough.
+-- length s steps are enough.
 unfoldable pub outputFor : ℕ → ℕ → Session → List ℕ → List ℕ → List ℕ
 outputFor zero at p t s = []
 outputFor (suc n) at p t s =
@@ -27,7 +27,7 @@ outputFrom at p t s = outputFor (suc (length s)) at p t s
 abbrev pub output : List ℕ → List ℕ
 output s = outputFrom 0 fresh (replicate tableWords 0) s
 
--- the first record's turn, then what follows it
+-- the first record's step, then what follows it
 abbrev pub joined : RecordStep → RecordStep → RecordStep
 joined x y = record { session = y .session; table = y .table; read = x .read + y .read; printed = x .printed ++ y .printed; bad = y .bad }
 

@@ -1,4 +1,4 @@
--- What the code's results tell of a turn.
+-- What the code's results tell of a step.
 use Prim.Native.Nat.{ℕ, _+_, _<_, _≤_}
 use mathlib.Core.Path.{_≡_, refl, sym}
 use mathlib.Core.Bool.{Bool, true, false, not, _&&_, and-false}
@@ -27,7 +27,7 @@ module _ (b : Bool) (x : RecordStep) (r : StepResult) (p : Session) (t out left 
   pub accepted : (words : List ℕ) → b ≡ true → Matches r words out left k x → Matches r words out left k (allowed b p t x)
   accepted words e h = rw e h
 
--- a result tells of a record that names one more, where n are named so far, of at most `most`, and the player is then q
+-- a result tells of a record that names one more, where n are named so far, of at most `most`, and the session is then q
 abbrev pub NameMatches : Session → ℕ → ℕ → List ℕ → Session → StepResult → Type 0
 NameMatches p n most s q r = (t out : List ℕ) (k : ℕ) → Matches r t out out k (allowed (not (p .started) && ltb n most) p t (done s q t []))
 
@@ -41,7 +41,7 @@ module _ (p : Session) (n most : ℕ) (s : List ℕ) (q : Session) {r : StepResu
   pub named-more : p .started ≡ false → n < most → (m : ℕ) → m ≡ sizeOf s → r ≡ stepResult q m 0 false → NameMatches p n most s q r
   named-more h l m z e t out k = accepted (not (p .started) && ltb n most) (done s q t []) r p t out out k t (rw (h, lt-ltb n most l)) (matches-silent (rw z at e))
 
--- the turn of the item that stands at the front, where there is room for its lines
+-- the step of the item that stands at the front, where there is room for its lines
 module _ (p : Session) (t s : List ℕ) where
   pub matches-step :
       {r : StepResult} {words out left : List ℕ} {k : ℕ} {i : Item}
@@ -57,7 +57,7 @@ module _ (p : Session) (t s : List ℕ) where
   unfolding stepIn
   matches-full h e = rw h (matches-silent e)
 
--- what is told of a turn that had room
+-- what is told of a step that had room
 pub matched-in-room : (r : StepResult) (p : Session) (t s words out left : List ℕ) (k : ℕ) → k + recordRoom ≤ length out → Matches r words out left k (stepIn (length out) k p t s) → Matches r words out left k (stepRecord p t s)
 unfolding stepIn
 matched-in-room r p t s words out left k h x = rw (le-leb (k + recordRoom) (length out) h) at x

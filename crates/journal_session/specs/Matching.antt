@@ -1,4 +1,4 @@
--- What the code gives back for a turn.
+-- What the code gives back for a step.
 use Prim.Native.Nat.{ℕ}
 use mathlib.Core.Path.{_≡_}
 use mathlib.Core.Bool.{Bool}
@@ -12,7 +12,7 @@ use Rattle.journal_session.specs.Steps.{RecordStep}
 abbrev pub stepResult : Session → ℕ → ℕ → Bool → StepResult
 stepResult p n k b = record { session = p; read = n; printed = k; bad = b }
 
--- a result, the table as left, and the buffer `out` as left with the lines at place k say all of a turn
+-- a result, the table as left, and the buffer `out` as left with the lines at place k say all of a step
 pub record Matches (r : StepResult) (table out left : List ℕ) (k : ℕ) (x : RecordStep) : Type 0 where
   pub session : r .session ≡ x .session
   pub words : table ≡ x .table

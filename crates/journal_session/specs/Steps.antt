@@ -27,7 +27,7 @@ use Rattle.journal_session.specs.Naming.{guestNamed, endpointNamed, rang
 abbrev pub recordRoom : ℕ
 recordRoom = fetchRoom
 
--- what a record leaves: the player, the table, the bytes read (0: no record was worked) and printed, and whether the journal is bad here
+-- what a record leaves: the session, the table, the bytes read (0: no record was worked) and printed, and whether the journal is bad here
 pub record RecordStep : Type 0 where
   pub session : Session
   pub table : List ℕ

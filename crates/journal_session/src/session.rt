@@ -13,7 +13,7 @@ pub struct Session {
     pub state: State,
 }
 
-// What records leave: the player, the bytes read (0 where no record is worked) and printed, and whether the journal is bad there.
+// What records leave: the session, the bytes read (0 where no record is worked) and printed, and whether the journal is bad there.
 pub struct StepResult {
     pub session: Session,
     pub read: usize,

@@ -1,4 +1,4 @@
--- How many bytes a turn reads.
+-- How many bytes a step reads.
 use Prim.Native.Nat.{ℕ, _≤_}
 use mathlib.Core.Path.{_≡_, refl}
 use mathlib.Core.Bool.{Bool, true, false, not, _&&_}
@@ -38,7 +38,7 @@ front-fits s =
     (omega (arith, n), omega (arith, m), ltb-false (length s) (sizeOf s) c))))
 
 module _ (p : Session) (t s : List ℕ) where
-  -- a turn reads the record at the front, or nothing
+  -- a step reads the record at the front, or nothing
   abbrev ReadsWell : RecordStep → Type 0
   ReadsWell x = x .read ≤ length s
 
@@ -57,7 +57,7 @@ module _ (p : Session) (t s : List ℕ) where
   reads-well (Reset g) f = may-read (p .started) (resetStep p t s g) refl (f refl)
   reads-well (Fetch g n) f = may-read (p .started) (fetchStep p t s g n) refl (f refl)
 
-  -- no turn reads more than there is
+  -- no step reads more than there is
   pub step-reads : stepRecord p t s .read ≤ length s
   unfolding stepRecord
   step-reads = reads-well (front s) (front-fits s)

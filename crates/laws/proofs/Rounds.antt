@@ -1,4 +1,4 @@
--- What one turn of a loop adds: to a test of the numbers below one, and to what is left of a list.
+-- What one round of a loop adds: to a test of the numbers below one, and to what is left of a list.
 use Prim.Native.Nat.{ℕ, zero, suc, _+_, _*_, _≤_, _<_}
 use mathlib.Core.Path.{_≡_, refl, sym, _∙_}
 use mathlib.Core.Bool.{Bool, true, false, _&&_, and-true, and-comm}

@@ -1,4 +1,4 @@
--- One turn of the pass over the records, a domain: what the pass says, and the guests' counts.
+-- One round of the pass over the records, a domain: what the pass says, and the guests' counts.
 use Prim.Native.Nat.{ℕ, suc, _+_, _-_, _<_, _≤_}
 use mathlib.Core.Path.{_≡_, refl, sym, ap, _∙_}
 use mathlib.Core.Bool.{Bool, true, false, cond, _&&_, _||_, and-assoc}

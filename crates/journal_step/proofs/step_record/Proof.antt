@@ -1,4 +1,4 @@
--- `journal_step::turn` meets its contract. Assumes nothing.
+-- `journal_step::step` meets its contract. Assumes nothing.
 use Prim.Native.Nat.{ℕ, _+_, _≤_}
 use mathlib.Core.Path.{_≡_, sym, ap, _∙_}
 use mathlib.Core.Bool.{true}
@@ -39,7 +39,7 @@ module _ (f : tie.After-front) where
     is : front (start .args .s .now) ≡ i
     is = sym (f .front .ensures) ∙ e
 
-    -- and what is told of its item is told of the turn
+    -- and what is told of its item is told of the step
     told : {r : StepResult} {words left : List ℕ} → Matches r words (start .args .out .now) left (start .args .at) (stepOf (start .args .p) (start .args .t .now) (start .args .s .now) i)
         → Matches r words (start .args .out .now) left (start .args .at) (stepIn (length (start .args .out .now)) (start .args .at) (start .args .p) (start .args .t .now) (start .args .s .now))
     told h = matches-step (start .args .p) (start .args .t .now) (start .args .s .now) tested is h

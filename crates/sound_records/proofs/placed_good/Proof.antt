@@ -46,7 +46,7 @@ loop-holds c =
     let l = take (a .live) (records (a .t .now)) in
     (omega arith, from-first _ _ l, count-none l)
 
--- a turn of the loop
+-- a round of the loop
 module _ (s : tie.At-loop Inv-loop μ-loop) where
   abbrev start : tie.Start Inv-loop μ-loop
   start = s .before .before .before .before .before .before .before

@@ -101,7 +101,7 @@ returns c =
     let y = c .before .before .before .before .before .before .before in
     rw (c .before .past .ensures, c .past2 .ensures) (ends (start (l y) .args .p) (start (l y) .args .t .now) (start (l y) .args .s .now) (start (l y) .args .out .now) (l y .loop .session) (l y .loop .t) (l y .loop .out) (l y .loop .read) (l y .loop .printed) (went (l y)) (all y) (y .run .result) (y .run .last .1 .0) (left y) (told y) (same-out y) refl)
 
--- what the turn in the loop's body tells of the rest of the part
+-- what the step in the loop's body tells of the rest of the part
 module _ (y : tie.After-step-record Inv-loop μ-loop) where
   abbrev m : tie.At-loop Inv-loop μ-loop
   m = y .before .before .before .before .before .before .before .before
