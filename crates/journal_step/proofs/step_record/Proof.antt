@@ -1,4 +1,4 @@
--- `journal_step::step` meets its contract. Assumes nothing.
+-- `journal_step::step_record` meets its contract. Assumes nothing.
 use Prim.Native.Nat.{ℕ, _+_, _≤_}
 use mathlib.Core.Path.{_≡_, sym, ap, _∙_}
 use mathlib.Core.Bool.{true}

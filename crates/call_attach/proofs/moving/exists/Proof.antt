@@ -1,4 +1,4 @@
--- `call_attach::exists` meets its contract. Assumes nothing.
+-- `call_attach::moving::exists` meets its contract. Assumes nothing.
 use borrow.Author.Needs.{needs}
 use Rattle.refinement.specs.Flat.{domainExists}
 use Rattle.call_attach.proofs.moving.exists.Statement.{statement}

@@ -1,4 +1,4 @@
--- `call_attach::leave` meets its contract. Assumes nothing.
+-- `call_attach::moving::leave` meets its contract. Assumes nothing.
 use borrow.Author.Needs.{needs}
 use Rattle.state_fields.specs.Fields.{withDomains}
 use Rattle.refinement.proofs.Settled.{removed-is}

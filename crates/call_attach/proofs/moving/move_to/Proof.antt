@@ -1,4 +1,4 @@
--- `call_attach::move_to` meets its contract. Assumes nothing.
+-- `call_attach::moving::move_to` meets its contract. Assumes nothing.
 use borrow.Author.Needs.{needs}
 use Rattle.state_fields.specs.Fields.{withDomains}
 use Rattle.call_attach.proofs.Leaving.{moved-new, moved-here, moved-over}

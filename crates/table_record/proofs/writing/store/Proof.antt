@@ -1,4 +1,4 @@
--- `table_record::record::store` meets its contract. Assumes nothing.
+-- `table_record::writing::store` meets its contract. Assumes nothing.
 use native.Mathlib.Omega.{arith}
 use borrow.Author.Needs.{needs}
 use lib.ListN.{length-set}

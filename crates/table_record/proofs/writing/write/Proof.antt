@@ -1,4 +1,4 @@
--- `table_record::record::write` meets its contract. Assumes nothing.
+-- `table_record::writing::write` meets its contract. Assumes nothing.
 use native.Mathlib.Omega.{arith}
 use borrow.Author.Needs.{needs}
 use mathlib.Core.Path.{_∙_}

@@ -1,4 +1,4 @@
--- `wire_requests::readable_length` meets its contract. Assumes nothing.
+-- `wire_requests::lengths::readable_length` meets its contract. Assumes nothing.
 use borrow.Author.Tests.{ne-eqb}
 use Rattle.wire_requests.proofs.lengths.readable_length.Statement.{statement}
 use Rattle.wire_requests.proofs.lengths.readable_length.Tie as tie

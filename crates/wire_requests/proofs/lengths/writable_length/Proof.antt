@@ -1,4 +1,4 @@
--- `wire_requests::writable_length` meets its contract. Assumes nothing.
+-- `wire_requests::lengths::writable_length` meets its contract. Assumes nothing.
 use native.Mathlib.Omega.{arith}
 use mathlib.Core.Bool.{and-false}
 use borrow.Author.Tests.{le-leb, lt-leb}
