@@ -26,16 +26,16 @@ pub extern "C" fn viommu_lost(s: State, g: Guest) -> u32
 
 // The number of bytes that a request of this type has in its readable part, to be asked before a buffer is gathered.
 #[no_mangle]
-pub extern "C" fn viommu_readable_length(request_type: u8) -> usize
-    ensures { λ r. ⌜ r ≡ readableLength request_type ⌝ }
+pub extern "C" fn viommu_readable_length(requested: u8) -> usize
+    ensures { λ r. ⌜ r ≡ readableLength requested ⌝ }
 {
-    wire_requests::readable_length(request_type)
+    wire_requests::readable_length(requested)
 }
 
 // The number of bytes that a request of this type has in its writable part.
 #[no_mangle]
-pub extern "C" fn viommu_writable_length(request_type: u8) -> usize
-    ensures { λ r. ⌜ r ≡ writableLength request_type ⌝ }
+pub extern "C" fn viommu_writable_length(requested: u8) -> usize
+    ensures { λ r. ⌜ r ≡ writableLength requested ⌝ }
 {
-    wire_requests::writable_length(request_type)
+    wire_requests::writable_length(requested)
 }

@@ -8,10 +8,10 @@ use rules::requests::UNMAP;
 use rules::sizes::STATUS_SIZE;
 
 // The number of bytes that a request of this type has in its readable part.
-pub fn readable_length(request_type: u8) -> usize
-    ensures { λ r. ⌜ r ≡ readableLength request_type ⌝ }
+pub fn readable_length(requested: u8) -> usize
+    ensures { λ r. ⌜ r ≡ readableLength requested ⌝ }
 {
-    match request_type {
+    match requested {
         ATTACH => 20,
         DETACH => 20,
         MAP => 36,
@@ -21,10 +21,10 @@ pub fn readable_length(request_type: u8) -> usize
 }
 
 // The number of bytes that a request of this type has in its writable part.
-pub fn writable_length(request_type: u8) -> usize
-    ensures { λ r. ⌜ r ≡ writableLength request_type ⌝ }
+pub fn writable_length(requested: u8) -> usize
+    ensures { λ r. ⌜ r ≡ writableLength requested ⌝ }
 {
-    match request_type {
+    match requested {
         ATTACH..=UNMAP => STATUS_SIZE,
         0 | 5..=255 => 0,
     }

@@ -104,12 +104,12 @@ fn unmap_fields(readable: &[u8]) -> UnmapFields
 }
 
 // The fields of a request of a known type, whose readable part has that type's length.
-fn taken_apart(readable: &[u8], request_type: u8) -> Request
-    requires { ⌜ Whole request_type (now readable) ⌝ }
+fn taken_apart(readable: &[u8], requested: u8) -> Request
+    requires { ⌜ Whole requested (now readable) ⌝ }
     ensures { λ r. ⌜ r ≡ asked (now (readable .entry)) ⌝ }
 {
     let domain = domain_field(readable);
-    match request_type {
+    match requested {
         ATTACH => Request::Attach(domain, endpoint_field(readable), reserved_field(readable)),
         DETACH => Request::Detach(domain, endpoint_field(readable), reserved_field(readable)),
         MAP => Request::Map(domain, map_fields(readable)),
@@ -125,13 +125,13 @@ pub fn parse(readable: &[u8], writable: usize) -> Request
     if readable.len() < 4 {
         return Request::Refused(Refusal::WrongLength);
     }
-    let request_type = readable[0];
-    match request_type {
+    let requested = readable[0];
+    match requested {
         ATTACH..=UNMAP => {
-            let readable_length = crate::lengths::readable_length(request_type);
-            let writable_length = crate::lengths::writable_length(request_type);
+            let readable_length = crate::lengths::readable_length(requested);
+            let writable_length = crate::lengths::writable_length(requested);
             if (readable.len() == readable_length) & (writable == writable_length) {
-                taken_apart(readable, request_type)
+                taken_apart(readable, requested)
             } else {
                 Request::Refused(Refusal::WrongLength)
             }

@@ -7,12 +7,12 @@ use Rattle.wire_requests.proofs.lengths.writable_length.Tie as tie
 
 known : tie.Need-returns
 known c =
-    let t = c .before .before .args .request-type in
+    let t = c .before .before .args .requested in
     rw (le-leb 1 t (omega (arith, c .before .match .rest .1)), le-leb t 4 (omega arith))
 
 rest : tie.Need-returns-3
 rest c =
-    let t = c .before .before .args .request-type in
+    let t = c .before .before .args .requested in
     rw (lt-leb t 4 (omega arith), and-false)
 
 pub writable-length-spec : {M : Type 1} → statement M
