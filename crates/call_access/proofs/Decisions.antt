@@ -28,7 +28,7 @@ use Rattle.table_lookup.specs.declared.Found.{Found}
 use Rattle.table_lookup.specs.declared.Found.the-variants.{At, Nothing}
 use Rattle.table_lookup.specs.Outcomes.{foundOf}
 use Rattle.table_lookup.proofs.Outcomes.{found-at, found-nothing}
-use Rattle.state_log.specs.Changes.{faultLogged}
+use Rattle.state_log.specs.Changes.{logFault}
 use Rattle.refinement.specs.Flat.{endpointIndex, answerOf, decisionAt, afterAccess, ownerAt}
 use Rattle.refinement.specs.Translating.{inWords}
 
@@ -99,6 +99,6 @@ module _ (s : State) (a : Access) where
   logs-nothing (Refused e) h = refl
   logs-nothing (Blocked c) h = absurd (miss unlogged 5 tt h)
 
-  pub logs-fault : (c : Cause) (i : ℕ) (owner : Guest) (f : Fault) (t : State) → i ≡ endpointIndex s (a .endpoint) → owner ≡ ownerAt s i → f ≡ faultOf c a → t ≡ faultLogged s owner f → t ≡ afterAccess s a (Blocked c)
+  pub logs-fault : (c : Cause) (i : ℕ) (owner : Guest) (f : Fault) (t : State) → i ≡ endpointIndex s (a .endpoint) → owner ≡ ownerAt s i → f ≡ faultOf c a → t ≡ logFault s owner f → t ≡ afterAccess s a (Blocked c)
   unfolding afterAccess
   logs-fault c i owner f t p q r u = rw (sym p, sym q, sym r) u

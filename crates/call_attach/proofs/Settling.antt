@@ -6,7 +6,7 @@ use Rattle.rules.specs.declared.Guest.{Guest}
 use Rattle.rules.specs.declared.Domain.{Domain}
 use Rattle.rules.specs.declared.Endpoint.{Endpoint}
 use Rattle.rules.specs.declared.State.{State}
-use Rattle.refinement.specs.Flat.{device, withStatus, endpointIndex, left, moved, attachStatus, detachStatus}
+use Rattle.refinement.specs.Flat.{device, withStatus, endpointIndex, attachStatus, detachStatus}
 use Rattle.refinement.specs.Flat as flat
 use Rattle.refinement.proofs.Settled.{settled-fails, settled-works}
 
@@ -15,14 +15,14 @@ module _ (s : State) (ws : List ℕ) (g : Guest) (dom : Domain) (e : Endpoint) (
   unfolding flat.handleAttach
   attach-fails x h = settled-fails n _ (device s ws) _ (x ∙ ap (λ j. attachStatus s g dom j z) at) h
 
-  pub attach-works : (r : State) (vs : List ℕ) → n ≡ attachStatus s g dom i z → n ≡ 0 → device r vs ≡ moved (device s ws) g i dom → withStatus 0 (device r vs) ≡ flat.handleAttach (device s ws) g dom e z
+  pub attach-works : (r : State) (vs : List ℕ) → n ≡ attachStatus s g dom i z → n ≡ 0 → device r vs ≡ flat.moveTo (device s ws) g i dom → withStatus 0 (device r vs) ≡ flat.handleAttach (device s ws) g dom e z
   unfolding flat.handleAttach
-  attach-works r vs x h y = settled-works n _ (device s ws) _ (device r vs) (x ∙ ap (λ j. attachStatus s g dom j z) at) h (y ∙ ap (λ j. moved (device s ws) g j dom) at)
+  attach-works r vs x h y = settled-works n _ (device s ws) _ (device r vs) (x ∙ ap (λ j. attachStatus s g dom j z) at) h (y ∙ ap (λ j. flat.moveTo (device s ws) g j dom) at)
 
   pub detach-fails : n ≡ detachStatus s g dom i z → (n ≡ 0 → ⊥) → withStatus n (device s ws) ≡ flat.handleDetach (device s ws) g dom e z
   unfolding flat.handleDetach
   detach-fails x h = settled-fails n _ (device s ws) _ (x ∙ ap (λ j. detachStatus s g dom j z) at) h
 
-  pub detach-works : (r : State) (vs : List ℕ) → n ≡ detachStatus s g dom i z → n ≡ 0 → device r vs ≡ left (device s ws) g i dom → withStatus 0 (device r vs) ≡ flat.handleDetach (device s ws) g dom e z
+  pub detach-works : (r : State) (vs : List ℕ) → n ≡ detachStatus s g dom i z → n ≡ 0 → device r vs ≡ flat.leave (device s ws) g i dom → withStatus 0 (device r vs) ≡ flat.handleDetach (device s ws) g dom e z
   unfolding flat.handleDetach
-  detach-works r vs x h y = settled-works n _ (device s ws) _ (device r vs) (x ∙ ap (λ j. detachStatus s g dom j z) at) h (y ∙ ap (λ j. left (device s ws) g j dom) at)
+  detach-works r vs x h y = settled-works n _ (device s ws) _ (device r vs) (x ∙ ap (λ j. detachStatus s g dom j z) at) h (y ∙ ap (λ j. flat.leave (device s ws) g j dom) at)

@@ -2,7 +2,8 @@
 ghost use mathlib.Core.Path.{_≡_};
 ghost use Rattle.rules.specs.declared.State.{State};
 ghost use Rattle.state_fields.specs.Fields.{withDomains};
-ghost use Rattle.refinement.specs.Flat.{device, domainExists, left, moved};
+ghost use Rattle.refinement.specs.Flat.{device};
+ghost use Rattle.refinement.specs.Flat as flat;
 use rules::Domain;
 use rules::Guest;
 use rules::sizes::MAX_ENDPOINTS;
@@ -16,7 +17,7 @@ fn exists<'a>(
     g: Guest,
     d: Domain,
 ) -> bool
-    ensures { λ r. ⌜ ((s : State) → r ≡ domainExists (withDomains (now (owners .entry)) (now (attached .entry)) (now (domains .entry)) (s .live) s) g d) ⌝ }
+    ensures { λ r. ⌜ ((s : State) → r ≡ flat.domainExists (withDomains (now (owners .entry)) (now (attached .entry)) (now (domains .entry)) (s .live) s) g d) ⌝ }
 {
     state_endpoints::domain_exists(owners, attached, domains, g, d)
 }
@@ -33,7 +34,7 @@ pub(crate) fn leave<'a>(
     i: usize,
     d: Domain,
 ) -> usize
-    ensures { λ r. ⌜ ((s : State) → device (withDomains (now (owners .entry)) (now (attached .exit)) (now (domains .exit)) r s) (now (t .exit)) ≡ left (device (withDomains (now (owners .entry)) (now (attached .entry)) (now (domains .entry)) live s) (now (t .entry))) g i d) ⌝ }
+    ensures { λ r. ⌜ ((s : State) → device (withDomains (now (owners .entry)) (now (attached .exit)) (now (domains .exit)) r s) (now (t .exit)) ≡ flat.leave (device (withDomains (now (owners .entry)) (now (attached .entry)) (now (domains .entry)) live s) (now (t .entry))) g i d) ⌝ }
 {
     state_endpoints::attach_at(attached, domains, i, 0, Domain(0));
     if exists(owners, attached, domains, g, d) {
@@ -55,7 +56,7 @@ pub(crate) fn move_to<'a>(
     i: usize,
     d: Domain,
 ) -> usize
-    ensures { λ r. ⌜ ((s : State) → device (withDomains (now (owners .entry)) (now (attached .exit)) (now (domains .exit)) r s) (now (t .exit)) ≡ moved (device (withDomains (now (owners .entry)) (now (attached .entry)) (now (domains .entry)) live s) (now (t .entry))) g i d) ⌝ }
+    ensures { λ r. ⌜ ((s : State) → device (withDomains (now (owners .entry)) (now (attached .exit)) (now (domains .exit)) r s) (now (t .exit)) ≡ flat.moveTo (device (withDomains (now (owners .entry)) (now (attached .entry)) (now (domains .entry)) live s) (now (t .entry))) g i d) ⌝ }
 {
     let flag = state_endpoints::flag_at(attached, i);
     let was = state_endpoints::domain_at(domains, i);

@@ -9,7 +9,7 @@ use Rattle.rules.specs.declared.State.{State}
 use Rattle.rules.specs.declared.Answer.the-variants.{Fetched, Refused}
 use Rattle.rules.specs.declared.Refusal.the-variants.{NoSuchGuest, Unsound}
 use Rattle.rules.specs.Sizes.{maxGuests, maxFaults}
-use Rattle.state_log.specs.Dropped.{faultsDropped}
+use Rattle.state_log.specs.Dropped.{dropFaults}
 use Rattle.refinement.specs.Flat.{fetchCount, fetchBytes}
 use Rattle.refinement.specs.Fetching.{fetched, unfetched, fetchFaults}
 
@@ -28,7 +28,7 @@ module _ (guests : ℕ) (s : State) (g : Guest) (b : List ℕ) where
       unfolding fetchFaults unfetched
       fetch-log-past h = rw (lt-ltb (g .0) guests below, lt-ltb (g .0) maxGuests there, lt-leb (getD (s .logged) (g .0) 0) maxFaults h)
 
-      pub fetch-gives : getD (s .logged) (g .0) 0 ≤ maxFaults → (n : ℕ) (c : List ℕ) (r : State) → n ≡ fetchCount s g (length b) → c ≡ fetchBytes s g n b → r ≡ faultsDropped s g n
+      pub fetch-gives : getD (s .logged) (g .0) 0 ≤ maxFaults → (n : ℕ) (c : List ℕ) (r : State) → n ≡ fetchCount s g (length b) → c ≡ fetchBytes s g n b → r ≡ dropFaults s g n
           → (record { answer = Fetched n; buffer = c }, r) ≡ fetchFaults guests s g b
       unfolding fetchFaults fetched
       fetch-gives h n c r x y z = rw (lt-ltb (g .0) guests below, lt-ltb (g .0) maxGuests there, le-leb (getD (s .logged) (g .0) 0) maxFaults h, y, z, x)

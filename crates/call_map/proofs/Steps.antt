@@ -19,7 +19,8 @@ use Rattle.rules.specs.Requests.{OK}
 use Rattle.rules.specs.Handlers.{Steps, statusOf, formSteps, mapChain}
 use Rattle.rules.proofs.Chains.{nonzero}
 use Rattle.map_steps.specs.Forms.{limits}
-use Rattle.refinement.specs.Flat.{device, domainExists, mapStatus}
+use Rattle.refinement.specs.Flat.{device, mapStatus}
+use Rattle.refinement.specs.Flat as flat
 
 -- the one step that fails where one of the steps does, with their status
 abbrev told : ℕ → Steps
@@ -43,7 +44,7 @@ form-own : (s : State) (g : Guest) (r : Mapping) → statusOf (formSteps (limits
 unfolding formSteps own configOf
 form-own s g r = refl
 
-pub map-steps : (s : State) (ws : List ℕ) (g : Guest) (d : Domain) (r : Mapping) (x f n m : ℕ) (b o : Bool) → b ≡ domainExists s g d → f ≡ statusOf (formSteps (limits (s .settings .mask) (s .settings .input) (windowFirst (s .settings) (g .0)) (windowLast (s .settings) (g .0))) r) → o ≡ any? (overlap r) (take (s .live) (records ws)) → n ≡ length (recordsOf g (take (s .live) (records ws)))
+pub map-steps : (s : State) (ws : List ℕ) (g : Guest) (d : Domain) (r : Mapping) (x f n m : ℕ) (b o : Bool) → b ≡ flat.domainExists s g d → f ≡ statusOf (formSteps (limits (s .settings .mask) (s .settings .input) (windowFirst (s .settings) (g .0)) (windowLast (s .settings) (g .0))) r) → o ≡ any? (overlap r) (take (s .live) (records ws)) → n ≡ length (recordsOf g (take (s .live) (records ws)))
     → m ≡ share (s .settings) (g .0) → x ≡ statusOf (mapChain (not b) (told f) o (leb m n)) → x ≡ mapStatus (device s ws) g d r
 unfolding mapStatus
-map-steps s ws g d r x f n m b o eb ef eo en em e = e ∙ rw (eb, ef ∙ form-own s g r, eo, en, em) (map-told (not (domainExists s g d)) (formSteps (own (configOf s) g) r) _ _ (unfold formSteps in refl))
+map-steps s ws g d r x f n m b o eb ef eo en em e = e ∙ rw (eb, ef ∙ form-own s g r, eo, en, em) (map-told (not (flat.domainExists s g d)) (formSteps (own (configOf s) g) r) _ _ (unfold formSteps in refl))

@@ -41,8 +41,8 @@ use Rattle.rules.proofs.Reading.{sound-good, sound-whole, sound-listed, log-rea
 use Rattle.rules.specs.State.{Lengths}
 use Rattle.rules.proofs.Refusals.{sound-step}
 use Rattle.rules.proofs.Unchanged.{kept-is, written, still}
-use Rattle.state_log.specs.Changes.{faultLogged}
-use Rattle.state_log.specs.Dropped.{faultsDropped}
+use Rattle.state_log.specs.Changes.{logFault}
+use Rattle.state_log.specs.Dropped.{dropFaults}
 use Rattle.state_endpoints.specs.Search.{indexOf}
 use Rattle.refinement.specs.Flat.{device, endpointIndex, isAttached, liveRecords, answerOf, decisionAt, decision, afterAccess, fetchCount, fetchBytes, ownerAt}
 use Rattle.refinement.proofs.Places.{owner-at}
@@ -109,11 +109,11 @@ module _ (d : Device) (h : sound d ≡ true) (k : Lengths (d .state)) where
 
     -- a fault logged for the owner
     logged-here : (why : Cause) → getD (d .state .owners) (endpointIndex (d .state) (x .endpoint)) 0 ≡ g .0
-        → device (faultLogged (d .state) (ownerAt (d .state) (endpointIndex (d .state) (x .endpoint))) (faultOf why x)) (d .table)
+        → device (logFault (d .state) (ownerAt (d .state) (endpointIndex (d .state) (x .endpoint))) (faultOf why x)) (d .table)
         ≡ write (configOf (d .state)) (replace (configOf (d .state)) g (withLog (logged (faultOf why x) (part (configOf (d .state)) g (read d) .log)) (part (configOf (d .state)) g (read d))) (read d))
     logged-here why o =
-        ap (λ n. device (faultLogged (d .state) (guest n) (faultOf why x)) (d .table)) o
-        ∙ ap (λ (v : Device). device (faultLogged (v .state) g (faultOf why x)) (v .table)) (written d h k)
+        ap (λ n. device (logFault (d .state) (guest n) (faultOf why x)) (d .table)) o
+        ∙ ap (λ (v : Device). device (logFault (v .state) g (faultOf why x)) (v .table)) (written d h k)
         ∙ fault-written (configOf (d .state)) (kept-is d h k) (read d) (sound-whole d h) g m (faultOf why x)
 
     same-here : d ≡ write (configOf (d .state)) (replace (configOf (d .state)) g (part (configOf (d .state)) g (read d)) (read d))
@@ -198,7 +198,7 @@ module _ (d : Device) (h : sound d ≡ true) (k : Lengths (d .state)) where
   take-tab z n l f s = sym (tab-is n f (take n (tab l f)) z (length-take-le n (tab l f) (rw (length-tab l f) s)) (λ i j. sym (getD-take n (tab l f) i z j ∙ getD-tab l f i z (omega arith))))
 
   pub fetch-step : (g : Guest) (b : List ℕ) → ltb (g .0) (d .state .settings .guests) ≡ true
-      → step d (of-guest g (fetch b)) ≡ (record { answer = Fetched (fetchCount (d .state) g (length b)); buffer = fetchBytes (d .state) g (fetchCount (d .state) g (length b)) b }, device (faultsDropped (d .state) g (fetchCount (d .state) g (length b))) (d .table))
+      → step d (of-guest g (fetch b)) ≡ (record { answer = Fetched (fetchCount (d .state) g (length b)); buffer = fetchBytes (d .state) g (fetchCount (d .state) g (length b)) b }, device (dropFaults (d .state) g (fetchCount (d .state) g (length b))) (d .table))
   fetch-step g b l =
       sound-step d (of-guest g (fetch b)) (unfold configOf in l) h
       ∙ unfold caller rules.performed work rule jobRule in
@@ -219,8 +219,8 @@ module _ (d : Device) (h : sound d ≡ true) (k : Lengths (d .state)) where
       bytes : fetchedInto n (part (configOf (d .state)) g (read d) .log) b ≡ fetchBytes (d .state) g n b
       bytes = ap (λ (q : Log). fetchedInto n q b) log-is ∙ unfold fetchedInto fetchBytes in ap (λ (q : List Fault). bytesOf q ++ drop (faultSize * n) b) (take-tab noFault n (getD (d .state .logged) (g .0) 0) (λ j. faultAt (d .state) (maxFaults * g .0 + j)) (min-le-left (getD (d .state .logged) (g .0) 0) (length b / faultSize)))
 
-      kept-device : write (configOf (d .state)) (replace (configOf (d .state)) g (withLog (fetchedFrom n (part (configOf (d .state)) g (read d) .log)) (part (configOf (d .state)) g (read d))) (read d)) ≡ device (faultsDropped (d .state) g n) (d .table)
-      kept-device = sym (ap (λ (v : Device). device (faultsDropped (v .state) g n) (v .table)) (written d h k) ∙ fetch-written (configOf (d .state)) (kept-is d h k) (read d) (sound-whole d h) g below n)
+      kept-device : write (configOf (d .state)) (replace (configOf (d .state)) g (withLog (fetchedFrom n (part (configOf (d .state)) g (read d) .log)) (part (configOf (d .state)) g (read d))) (read d)) ≡ device (dropFaults (d .state) g n) (d .table)
+      kept-device = sym (ap (λ (v : Device). device (dropFaults (v .state) g n) (v .table)) (written d h k) ∙ fetch-written (configOf (d .state)) (kept-is d h k) (read d) (sound-whole d h) g below n)
 
-      pair : _≡_ {A = List ℕ × Device} (fetchedInto n (part (configOf (d .state)) g (read d) .log) b, write (configOf (d .state)) (replace (configOf (d .state)) g (withLog (fetchedFrom n (part (configOf (d .state)) g (read d) .log)) (part (configOf (d .state)) g (read d))) (read d))) (fetchBytes (d .state) g n b, device (faultsDropped (d .state) g n) (d .table))
+      pair : _≡_ {A = List ℕ × Device} (fetchedInto n (part (configOf (d .state)) g (read d) .log) b, write (configOf (d .state)) (replace (configOf (d .state)) g (withLog (fetchedFrom n (part (configOf (d .state)) g (read d) .log)) (part (configOf (d .state)) g (read d))) (read d))) (fetchBytes (d .state) g n b, device (dropFaults (d .state) g n) (d .table))
       pair = rw (bytes, kept-device)

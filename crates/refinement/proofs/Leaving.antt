@@ -23,7 +23,7 @@ use Rattle.rules.specs.Configuration.{Config}
 use Rattle.rules.specs.Table.{keyOf, guestOf}
 use Rattle.rules.specs.State.{Attachment, World, Device, flagOf, numberOf, stateOf, write}
 use Rattle.rules.specs.Guests.{Own, Part, own, part, replace, recordsOf, withRecordsOf}
-use Rattle.rules.specs.Handlers.{isIn, exists, attachmentOf, attachedAs, ofKey, without, leave, enter, formSteps}
+use Rattle.rules.specs.Handlers.{isIn, domainExists, attachmentOf, attachedAs, ofKey, without, leave, enter, formSteps}
 use Rattle.rules.specs.Sound.{guest, recordGood}
 use Rattle.rules.specs.Device.{ownerOf}
 use Rattle.rules.proofs.Records.{mine, key-guest, all-guests}
@@ -35,9 +35,10 @@ use Rattle.rules.proofs.Chains.{formed}
 use Rattle.rules.proofs.Shares.{fits}
 use Rattle.rules.proofs.Writing.{kept}
 use Rattle.table_remove.specs.Removed.{within}
-use Rattle.state_endpoints.specs.Changes.{attachedAt}
+use Rattle.state_endpoints.specs.Changes.{attachAt}
 use Rattle.state_endpoints.specs.Search.{indexOf}
-use Rattle.refinement.specs.Flat.{device, isAttached, domainExists, removed, left, entered, noDomain}
+use Rattle.refinement.specs.Flat.{device, isAttached, removed, noDomain}
+use Rattle.refinement.specs.Flat as flat
 use Rattle.rules.proofs.PutBack.{with-kept}
 use Rattle.rules.proofs.Unchanged.{attachments-same, records-same, logs-same}
 use Rattle.refinement.proofs.Places.{owner-at, attachment-at, attached-at}
@@ -132,11 +133,11 @@ module _ (c : Config) (k : kept c ≡ c) (w : World) (h : Whole c w) (g : Guest)
   changed : (a : Attachment) → weaveBy (g .0) (c .owners) (w .attachments) (attachedAs e a (own c g .endpoints) (part c g w .attachments)) ≡ set (w .attachments) (indexOf (e .0) (c .endpoints)) a
   changed a = unfold own part in attached-at e a g (c .endpoints) (c .owners) (w .attachments) owners-size size owner
 
-  exists-after : (a : Attachment) (dom : Domain) → domainExists (stateOf c (withAtts (set (w .attachments) (indexOf (e .0) (c .endpoints)) a) w)) g dom ≡ exists dom (attachedAs e a (own c g .endpoints) (part c g w .attachments))
+  exists-after : (a : Attachment) (dom : Domain) → flat.domainExists (stateOf c (withAtts (set (w .attachments) (indexOf (e .0) (c .endpoints)) a) w)) g dom ≡ domainExists dom (attachedAs e a (own c g .endpoints) (part c g w .attachments))
   exists-after a dom =
       exists-written c good-c (withAtts (set (w .attachments) (indexOf (e .0) (c .endpoints)) a) w) (length-set (w .attachments) _ a ∙ h .attachments) g dom
-      ∙ ap (λ (l : List Attachment). exists dom (pickBy (g .0) (c .owners) l)) (sym (changed a))
-      ∙ ap (λ (l : List Attachment). exists dom l) (pick-weave (g .0) (c .owners) (w .attachments) (attachedAs e a (own c g .endpoints) (part c g w .attachments)) (length-attachedAs e a (own c g .endpoints) (part c g w .attachments) ∙ unfold part in refl))
+      ∙ ap (λ (l : List Attachment). domainExists dom (pickBy (g .0) (c .owners) l)) (sym (changed a))
+      ∙ ap (λ (l : List Attachment). domainExists dom l) (pick-weave (g .0) (c .owners) (w .attachments) (attachedAs e a (own c g .endpoints) (part c g w .attachments)) (length-attachedAs e a (own c g .endpoints) (part c g w .attachments) ∙ unfold part in refl))
 
   -- the records of a domain that goes, on the whole table
   gone-records : (dom : Domain) → dom .0 < domainSpan → withRecordsOf g (keep (λ r. not (ofKey (keyOf (own c g .guest) dom) r)) (part c g w .records)) (w .records) ≡ keep (λ r. not (within (keyOf g dom) (keyOf g dom) 0 topAddress r)) (w .records)
@@ -153,13 +154,13 @@ module _ (c : Config) (k : kept c ≡ c) (w : World) (h : Whole c w) (g : Guest)
           or-true true = refl
           or-true false = refl
 
-  pub left-written : (dom : Domain) → dom .0 < domainSpan → left (write c w) g (indexOf (e .0) (c .endpoints)) dom ≡ write c (replace c g (leave (own c g) e dom (part c g w)) w)
+  pub left-written : (dom : Domain) → dom .0 < domainSpan → flat.leave (write c w) g (indexOf (e .0) (c .endpoints)) dom ≡ write c (replace c g (leave (own c g) e dom (part c g w)) w)
   left-written dom s =
-      unfold left leave without in
+      unfold flat.leave leave without in
       (rw (detached-state, exists-after none dom)
-      (go (exists dom (attachedAs e none (own c g .endpoints) (part c g w .attachments)))))
+      (go (domainExists dom (attachedAs e none (own c g .endpoints) (part c g w .attachments)))))
     where
-      detached-state : attachedAt (write c w .state) (indexOf (e .0) (c .endpoints)) 0 noDomain ≡ stateOf c (withAtts (set (w .attachments) (indexOf (e .0) (c .endpoints)) none) w)
+      detached-state : attachAt (write c w .state) (indexOf (e .0) (c .endpoints)) 0 noDomain ≡ stateOf c (withAtts (set (w .attachments) (indexOf (e .0) (c .endpoints)) none) w)
       detached-state = unfold write in attached-written c w (indexOf (e .0) (c .endpoints)) none in-atts
 
       fewer : removed (device (stateOf c (withAtts (set (w .attachments) (indexOf (e .0) (c .endpoints)) none) w)) (write c w .table)) (keyOf g dom) (keyOf g dom) 0 topAddress
@@ -188,20 +189,20 @@ module _ (c : Config) (k : kept c ≡ c) (w : World) (h : Whole c w) (g : Guest)
       go true y i = rw y
       go false y i = rw (y, i)
 
-  pub entered-written : (dom : Domain) → entered (write c w) (indexOf (e .0) (c .endpoints)) dom ≡ write c (replace c g (enter (own c g) e dom (part c g w)) w)
+  pub entered-written : (dom : Domain) → flat.enter (write c w) (indexOf (e .0) (c .endpoints)) dom ≡ write c (replace c g (enter (own c g) e dom (part c g w)) w)
   entered-written dom =
-      unfold entered enter in
+      unfold flat.enter enter in
       (state ∙ sym (ap (λ (v : World). write c v) (replace-attachments c w h g (attachedAs e (some dom) (own c g .endpoints) (part c g w .attachments)))))
     where
-      state : device (attachedAt (write c w .state) (indexOf (e .0) (c .endpoints)) 1 dom) (write c w .table) ≡ write c (withAtts (weaveBy (g .0) (c .owners) (w .attachments) (attachedAs e (some dom) (own c g .endpoints) (part c g w .attachments))) w)
+      state : device (attachAt (write c w .state) (indexOf (e .0) (c .endpoints)) 1 dom) (write c w .table) ≡ write c (withAtts (weaveBy (g .0) (c .owners) (w .attachments) (attachedAs e (some dom) (own c g .endpoints) (part c g w .attachments))) w)
       state = rw (changed (some dom)) (unfold write in rw (attached-written c w (indexOf (e .0) (c .endpoints)) (some dom) in-atts))
 
   -- out of one domain and into another
-  pub moved-on : (was dom : Domain) → was .0 < domainSpan → entered (left (write c w) g (indexOf (e .0) (c .endpoints)) was) (indexOf (e .0) (c .endpoints)) dom ≡ write c (replace c g (enter (own c g) e dom (leave (own c g) e was (part c g w))) w)
+  pub moved-on : (was dom : Domain) → was .0 < domainSpan → flat.enter (flat.leave (write c w) g (indexOf (e .0) (c .endpoints)) was) (indexOf (e .0) (c .endpoints)) dom ≡ write c (replace c g (enter (own c g) e dom (leave (own c g) e was (part c g w))) w)
   moved-on was dom s =
-      ap (λ (v : Device). entered v (indexOf (e .0) (c .endpoints)) dom) (left-written was s)
+      ap (λ (v : Device). flat.enter v (indexOf (e .0) (c .endpoints)) dom) (left-written was s)
       ∙ unfold leave enter in
-      (ap (λ (v : World). entered (write c v) (indexOf (e .0) (c .endpoints)) dom) (replace-both c w h g none-now rest ∙ rw (changed none))
+      (ap (λ (v : World). flat.enter (write c v) (indexOf (e .0) (c .endpoints)) dom) (replace-both c w h g none-now rest ∙ rw (changed none))
       ∙ entering
       ∙ sym (ap (λ (v : World). write c v) (replace-both c w h g (attachedAs e (some dom) (own c g .endpoints) none-now) rest ∙ rw (again none (some dom) (own c g .endpoints) (part c g w .attachments), changed (some dom)))))
     where
@@ -209,13 +210,13 @@ module _ (c : Config) (k : kept c ≡ c) (w : World) (h : Whole c w) (g : Guest)
       none-now = attachedAs e none (own c g .endpoints) (part c g w .attachments)
 
       rest : List Mapping
-      rest = without (λ r. not (exists was (attachedAs e none (own c g .endpoints) (part c g w .attachments))) && ofKey (keyOf (own c g .guest) was) r) (part c g w .records)
+      rest = without (λ r. not (domainExists was (attachedAs e none (own c g .endpoints) (part c g w .attachments))) && ofKey (keyOf (own c g .guest) was) r) (part c g w .records)
 
       v1 : World
       v1 = withAtts (set (w .attachments) (indexOf (e .0) (c .endpoints)) none) (withRecs (withRecordsOf g rest (w .records)) w)
 
-      entering : entered (write c v1) (indexOf (e .0) (c .endpoints)) dom ≡ write c (withAtts (set (w .attachments) (indexOf (e .0) (c .endpoints)) (some dom)) (withRecs (withRecordsOf g rest (w .records)) w))
-      entering = unfold entered write in rw (attached-written c v1 (indexOf (e .0) (c .endpoints)) (some dom) (rw (length-set (w .attachments) (indexOf (e .0) (c .endpoints)) none) in-atts), set-set (w .attachments) (indexOf (e .0) (c .endpoints)) none (some dom))
+      entering : flat.enter (write c v1) (indexOf (e .0) (c .endpoints)) dom ≡ write c (withAtts (set (w .attachments) (indexOf (e .0) (c .endpoints)) (some dom)) (withRecs (withRecordsOf g rest (w .records)) w))
+      entering = unfold flat.enter write in rw (attached-written c v1 (indexOf (e .0) (c .endpoints)) (some dom) (rw (length-set (w .attachments) (indexOf (e .0) (c .endpoints)) none) in-atts), set-set (w .attachments) (indexOf (e .0) (c .endpoints)) none (some dom))
 
   -- what the arrays say at the endpoint's place
   small-place : indexOf (e .0) (c .endpoints) < maxEndpoints

@@ -22,9 +22,9 @@ use Rattle.rules.specs.Sound.{guest}
 use Rattle.rules.proofs.Groups.{good-facts}
 use Rattle.rules.proofs.Worlds.{Whole}
 use Rattle.state_fields.specs.Fields.{withCounts}
-use Rattle.state_log.specs.Changes.{faultStored, faultLogged}
-use Rattle.state_log.specs.Dropped.{shifted, shiftedAll, faultsDropped}
-use Rattle.state_reset.specs.Changes.{zeroOf, zeroedOf, endpointsDetached, logCleared, guestCleared}
+use Rattle.state_log.specs.Changes.{faultStored, logFault}
+use Rattle.state_log.specs.Dropped.{shifted, shiftedAll, dropFaults}
+use Rattle.state_reset.specs.Changes.{zeroOf, zeroedOf, detachAll, clearLog, guestCleared}
 use Rattle.refinement.proofs.Places.{all-detached}
 use Rattle.refinement.proofs.Written.{withAtts, withLogs, set-tab}
 
@@ -144,8 +144,8 @@ module _ (c : Config) (w : World) (h : Whole c w) (g : ℕ) (m : g < c .settings
   unchanged : withLogs (set (w .logs) g (logOf w g)) w ≡ w
   unchanged = rw (set-getD (w .logs) g noLog)
 
-  pub logged-written : (f : Fault) → faultLogged (stateOf c w) (guest g) f ≡ stateOf c (withLogs (set (w .logs) g (logged f (logOf w g))) w)
-  logged-written f = unfold faultLogged logged in (rw (lt-ltb g maxGuests few, count-is, lost-is) (go (ltb (length (logOf w g .faults)) maxFaults) refl (ltb (logOf w g .lost) maxLost) refl))
+  pub logged-written : (f : Fault) → logFault (stateOf c w) (guest g) f ≡ stateOf c (withLogs (set (w .logs) g (logged f (logOf w g))) w)
+  logged-written f = unfold logFault logged in (rw (lt-ltb g maxGuests few, count-is, lost-is) (go (ltb (length (logOf w g .faults)) maxFaults) refl (ltb (logOf w g .lost) maxLost) refl))
     where
       go : (a : Bool) → ltb (length (logOf w g .faults)) maxFaults ≡ a → (b : Bool) → ltb (logOf w g .lost) maxLost ≡ b
           → cond a (withCounts (set (stateOf c w .logged) g (suc (length (logOf w g .faults)))) (stateOf c w .lost) (faultStored (stateOf c w) (maxFaults * g + length (logOf w g .faults)) f))
@@ -157,9 +157,9 @@ module _ (c : Config) (w : World) (h : Whole c w) (g : ℕ) (m : g < c .settings
 
   -- THE OLDEST FAULTS GONE
 
-  pub dropped-written : (k : ℕ) → faultsDropped (stateOf c w) (guest g) k ≡ stateOf c (withLogs (set (w .logs) g (fetchedFrom k (logOf w g))) w)
+  pub dropped-written : (k : ℕ) → dropFaults (stateOf c w) (guest g) k ≡ stateOf c (withLogs (set (w .logs) g (fetchedFrom k (logOf w g))) w)
   dropped-written k =
-      unfold faultsDropped fetchedFrom in
+      unfold dropFaults fetchedFrom in
       (rw (lt-ltb g maxGuests few, count-is) (unfold stateOf in
       (rw (
         by-guest w g rest there (λ l. length (l .faults)) (length (logOf w g .faults) - k) (length-drop k (logOf w g .faults)),
@@ -231,7 +231,7 @@ module _ (c : Config) (w : World) (h : Whole c w) (g : ℕ) (m : g < c .settings
 
   pub cleared-written : guestCleared (stateOf c w) (guest g) ≡ stateOf c (withAtts (weaveBy g (c .owners) (w .attachments) (replicate (length (pickBy g (c .owners) (w .attachments))) none)) (withLogs (set (w .logs) g noLog) w))
   cleared-written =
-      unfold guestCleared endpointsDetached logCleared stateOf in
+      unfold guestCleared detachAll clearLog stateOf in
       (rw (
         lt-ltb g maxGuests few,
         cleared-places flagOf refl,

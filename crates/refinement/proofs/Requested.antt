@@ -24,7 +24,7 @@ use Rattle.rules.specs.Configuration.{Config, share}
 use Rattle.rules.specs.Table.{keyOf, guestOf, overlap, insertMapping, records}
 use Rattle.rules.specs.State.{Attachment, Log, World, noLog, configOf, read, flagOf, numberOf, stateOf, write}
 use Rattle.rules.specs.Guests.{own, part, replace, recordsOf, withRecordsOf, withRecords, withLog}
-use Rattle.rules.specs.Handlers.{outside, isIn, exists, listed, attachmentOf, ofKey, without, leave, enter, moveFrom, attached, attachSteps, handleAttach, detachSteps, handleDetach, formSteps, mapSteps, handleMap, inside, straddles, unmapSteps, handleUnmap, statusOf, attachChain, detachChain, mapChain, unmapChain}
+use Rattle.rules.specs.Handlers.{outside, isIn, domainExists, listed, attachmentOf, ofKey, without, leave, enter, moveFrom, attached, attachSteps, handleAttach, detachSteps, handleDetach, formSteps, mapSteps, handleMap, inside, straddles, unmapSteps, handleUnmap, statusOf, attachChain, detachChain, mapChain, unmapChain}
 use Rattle.rules.specs.Access.{afterReset, logged, fetchedFrom}
 use Rattle.rules.specs.Sound.{guest, inRange}
 use Rattle.rules.specs.Device.{ownerOf, is}
@@ -39,11 +39,11 @@ use Rattle.rules.proofs.Writing.{kept, config-back, read-write}
 use Rattle.rules.proofs.Soundness.{write-sound}
 use Rattle.rules.proofs.Share.{room-within-share}
 use Rattle.table_remove.specs.Removed.{within}
-use Rattle.state_log.specs.Changes.{faultLogged}
-use Rattle.state_log.specs.Dropped.{faultsDropped}
+use Rattle.state_log.specs.Changes.{logFault}
+use Rattle.state_log.specs.Dropped.{dropFaults}
 use Rattle.state_reset.specs.Changes.{guestCleared}
 use Rattle.state_endpoints.specs.Search.{indexOf}
-use Rattle.refinement.specs.Flat.{device, withStatus, endpointIndex, ownedAt, isAttached, domainExists, liveRecords, removed, inserted, left, entered, moved, settled, attachStatus, detachStatus, mapStatus, mapCounted, unmapStatus, resetGuest}
+use Rattle.refinement.specs.Flat.{device, withStatus, endpointIndex, ownedAt, isAttached, liveRecords, removed, inserted, settled, attachStatus, detachStatus, mapStatus, mapCounted, unmapStatus, resetGuest}
 use Rattle.refinement.specs.Flat as flat
 use Rattle.rules.proofs.PutBack.{with-kept, with-inserted, any-of}
 use Rattle.rules.proofs.Unchanged.{attachments-same, records-same, replace-same}
@@ -113,21 +113,21 @@ module _ (c : Config) (k : kept c ≡ c) (w : World) (h : Whole c w) (g : Guest)
       go : inRange (own c g) (some was) ≡ true → was .0 < domainSpan
       go y = unfold inRange in omega (arith, outside-high (own c g .domains .start) (own c g .domains .end) (was .0) (not-true _ y), facts .narrow)
 
-  moved-written : (e : Endpoint) (dom : Domain) → ownerOf e (c .endpoints) (c .owners) ≡ some g → moved (write c w) g (indexOf (e .0) (c .endpoints)) dom ≡ write c (replace c g (attached (own c g) e dom (part c g w)) w)
+  moved-written : (e : Endpoint) (dom : Domain) → ownerOf e (c .endpoints) (c .owners) ≡ some g → flat.moveTo (write c w) g (indexOf (e .0) (c .endpoints)) dom ≡ write c (replace c g (attached (own c g) e dom (part c g w)) w)
   moved-written e dom owner =
-      unfold moved attached in
+      unfold flat.moveTo attached in
       (rw (flag-here c k w h g m e owner, number-here c k w h g m e owner, attachment-here c k w h g m e owner) (go (getD (w .attachments) (indexOf (e .0) (c .endpoints)) none) refl))
     where
       i : ℕ
       i = indexOf (e .0) (c .endpoints)
 
       other : (was : Domain) → getD (w .attachments) (indexOf (e .0) (c .endpoints)) none ≡ some was → (b : Bool)
-          → cond b (write c w) (entered (left (write c w) g (indexOf (e .0) (c .endpoints)) (record { 0 = was .0 })) (indexOf (e .0) (c .endpoints)) dom) ≡ write c (replace c g (cond b (part c g w) (enter (own c g) e dom (leave (own c g) e was (part c g w)))) w)
+          → cond b (write c w) (flat.enter (flat.leave (write c w) g (indexOf (e .0) (c .endpoints)) (record { 0 = was .0 })) (indexOf (e .0) (c .endpoints)) dom) ≡ write c (replace c g (cond b (part c g w) (enter (own c g) e dom (leave (own c g) e was (part c g w)))) w)
       other was x true = same-world
       other was x false = moved-on c k w h g m e owner was dom (small-domain e was (attachment-here c k w h g m e owner ∙ x))
 
       go : (a : Attachment) → getD (w .attachments) (indexOf (e .0) (c .endpoints)) none ≡ a
-          → cond (eqb (flagOf a) 1) (cond (eqb (numberOf a) (dom .0)) (write c w) (entered (left (write c w) g (indexOf (e .0) (c .endpoints)) (record { 0 = numberOf a })) (indexOf (e .0) (c .endpoints)) dom)) (entered (write c w) (indexOf (e .0) (c .endpoints)) dom)
+          → cond (eqb (flagOf a) 1) (cond (eqb (numberOf a) (dom .0)) (write c w) (flat.enter (flat.leave (write c w) g (indexOf (e .0) (c .endpoints)) (record { 0 = numberOf a })) (indexOf (e .0) (c .endpoints)) dom)) (flat.enter (write c w) (indexOf (e .0) (c .endpoints)) dom)
           ≡ write c (replace c g (cond (isIn dom a) (part c g w) (enter (own c g) e dom (moveFrom (own c g) e a (part c g w)))) w)
       go none x = unfold isIn moveFrom in entered-written c k w h g m e owner dom
       go (some was) x = unfold isIn moveFrom in other was x (eqb (was .0) (dom .0))
@@ -142,9 +142,9 @@ module _ (c : Config) (k : kept c ≡ c) (w : World) (h : Whole c w) (g : Guest)
   pub attach-written : (dom : Domain) (e : Endpoint) (z : ℕ) → flat.handleAttach (write c w) g dom e z ≡ withStatus (handleAttach (own c g) (part c g w) dom e z .0) (write c (replace c g (handleAttach (own c g) (part c g w) dom e z .1) w))
   unfolding flat.handleAttach handleAttach
   attach-written dom e z =
-      ap (λ n. settled n (write c w) (moved (write c w) g (endpointIndex (write c w .state) e) dom)) (attach-status dom e z)
-      ∙ settled-written c w g (attachSteps (own c g) dom e z) (write c w) (moved (write c w) g (endpointIndex (write c w .state) e) dom) (part c g w) (attached (own c g) e dom (part c g w)) refl same-world
-      (λ y. ap (λ n. moved (write c w) g n dom) (place-is e) ∙ moved-written e dom (owner-of e (attaches (own c g) dom e z y .owned)))
+      ap (λ n. settled n (write c w) (flat.moveTo (write c w) g (endpointIndex (write c w .state) e) dom)) (attach-status dom e z)
+      ∙ settled-written c w g (attachSteps (own c g) dom e z) (write c w) (flat.moveTo (write c w) g (endpointIndex (write c w .state) e) dom) (part c g w) (attached (own c g) e dom (part c g w)) refl same-world
+      (λ y. ap (λ n. flat.moveTo (write c w) g n dom) (place-is e) ∙ moved-written e dom (owner-of e (attaches (own c g) dom e z y .owned)))
 
   -- DETACH
 
@@ -166,11 +166,11 @@ module _ (c : Config) (k : kept c ≡ c) (w : World) (h : Whole c w) (g : Guest)
   pub detach-written : (dom : Domain) (e : Endpoint) (z : ℕ) → flat.handleDetach (write c w) g dom e z ≡ withStatus (handleDetach (own c g) (part c g w) dom e z .0) (write c (replace c g (handleDetach (own c g) (part c g w) dom e z .1) w))
   unfolding flat.handleDetach handleDetach
   detach-written dom e z =
-      ap (λ n. settled n (write c w) (left (write c w) g (endpointIndex (write c w .state) e) dom)) (detach-status dom e z)
-      ∙ settled-written c w g (detachSteps (own c g) (part c g w) dom e z) (write c w) (left (write c w) g (endpointIndex (write c w .state) e) dom) (part c g w) (leave (own c g) e dom (part c g w)) refl same-world
+      ap (λ n. settled n (write c w) (flat.leave (write c w) g (endpointIndex (write c w .state) e) dom)) (detach-status dom e z)
+      ∙ settled-written c w g (detachSteps (own c g) (part c g w) dom e z) (write c w) (flat.leave (write c w) g (endpointIndex (write c w .state) e) dom) (part c g w) (leave (own c g) e dom (part c g w)) refl same-world
       (λ y.
       let s = detaches (own c g) (part c g w) dom e z y in
-      ap (λ n. left (write c w) g n dom) (place-is e) ∙ left-written c k w h g m e (owner-of e (s .owned)) dom (in-here e dom (s .here)))
+      ap (λ n. flat.leave (write c w) g n dom) (place-is e) ∙ left-written c k w h g m e (owner-of e (s .owned)) dom (in-here e dom (s .here)))
     where
       in-here : (e : Endpoint) (dom : Domain) → isIn dom (attachmentOf e (own c g .endpoints) (part c g w .attachments)) ≡ true → dom .0 < domainSpan
       in-here e dom x = go (attachmentOf e (own c g .endpoints) (part c g w .attachments)) refl x
@@ -184,10 +184,10 @@ module _ (c : Config) (k : kept c ≡ c) (w : World) (h : Whole c w) (g : Guest)
   live-is : liveRecords (write c w) ≡ w .records
   live-is = unfold write stateOf in records-tableOf (w .records)
 
-  exists-is : (dom : Domain) → domainExists (write c w .state) g dom ≡ exists dom (part c g w .attachments)
+  exists-is : (dom : Domain) → flat.domainExists (write c w .state) g dom ≡ domainExists dom (part c g w .attachments)
   exists-is dom = unfold write part in exists-written c good-c w (h .attachments) g dom
 
-  existing-small : (dom : Domain) → exists dom (part c g w .attachments) ≡ true → dom .0 < domainSpan
+  existing-small : (dom : Domain) → domainExists dom (part c g w .attachments) ≡ true → dom .0 < domainSpan
   existing-small dom x = omega (arith, outside-high (own c g .domains .start) (own c g .domains .end) (dom .0) (in-range (own c g) dom (part c g w .attachments) x (facts .attachments)), facts .narrow)
 
   overlap-is : (dom : Domain) (r : Mapping) → dom .0 < domainSpan → r .key ≡ keyOf g dom → any? (overlap r) (liveRecords (write c w)) ≡ any? (overlap r) (part c g w .records)
@@ -202,9 +202,9 @@ module _ (c : Config) (k : kept c ≡ c) (w : World) (h : Whole c w) (g : Guest)
   map-status : (dom : Domain) (r : Mapping) → r .key ≡ keyOf g dom → mapStatus (write c w) g dom r ≡ statusOf (mapSteps (own c g) (part c g w) dom r)
   unfolding mapStatus
   map-status dom r e =
-      ap (λ (x : Config). statusOf (mapChain (not (domainExists (write c w .state) g dom)) (formSteps (own x g) r) meets full)) config-is
+      ap (λ (x : Config). statusOf (mapChain (not (flat.domainExists (write c w .state) g dom)) (formSteps (own x g) r) meets full)) config-is
       ∙ ap (λ b. statusOf (mapChain (not b) (formSteps (own c g) r) meets full)) (exists-is dom)
-      ∙ go (exists dom (part c g w .attachments)) refl
+      ∙ go (domainExists dom (part c g w .attachments)) refl
     where
       meets : Bool
       meets = any? (overlap r) (liveRecords (write c w))
@@ -212,7 +212,7 @@ module _ (c : Config) (k : kept c ≡ c) (w : World) (h : Whole c w) (g : Guest)
       full : Bool
       full = leb (share (write c w .state .settings) (g .0)) (length (recordsOf g (liveRecords (write c w))))
 
-      go : (b : Bool) → exists dom (part c g w .attachments) ≡ b → statusOf (mapChain (not b) (formSteps (own c g) r) meets full) ≡ statusOf (mapChain (not b) (formSteps (own c g) r) (any? (overlap r) (part c g w .records)) (leb (own c g .share) (length (part c g w .records))))
+      go : (b : Bool) → domainExists dom (part c g w .attachments) ≡ b → statusOf (mapChain (not b) (formSteps (own c g) r) meets full) ≡ statusOf (mapChain (not b) (formSteps (own c g) r) (any? (overlap r) (part c g w .records)) (leb (own c g .share) (length (part c g w .records))))
       go true x =
           ap (λ o. statusOf (mapChain false (formSteps (own c g) r) o full)) (overlap-is dom r (existing-small dom x) e)
           ∙ ap (λ u. statusOf (mapChain false (formSteps (own c g) r) (any? (overlap r) (part c g w .records)) u)) held-is
@@ -249,9 +249,9 @@ module _ (c : Config) (k : kept c ≡ c) (w : World) (h : Whole c w) (g : Guest)
   unfolding unmapStatus
   unmap-status dom a b z =
       ap (λ x. statusOf (unmapChain (not x) (not (eqb z 0)) (ltb b a) (any? (straddles (keyOf g dom) a b) (liveRecords (write c w))))) (exists-is dom)
-      ∙ go (exists dom (part c g w .attachments)) refl
+      ∙ go (domainExists dom (part c g w .attachments)) refl
     where
-      go : (t : Bool) → exists dom (part c g w .attachments) ≡ t → statusOf (unmapChain (not t) (not (eqb z 0)) (ltb b a) (any? (straddles (keyOf g dom) a b) (liveRecords (write c w))))
+      go : (t : Bool) → domainExists dom (part c g w .attachments) ≡ t → statusOf (unmapChain (not t) (not (eqb z 0)) (ltb b a) (any? (straddles (keyOf g dom) a b) (liveRecords (write c w))))
           ≡ statusOf (unmapChain (not t) (not (eqb z 0)) (ltb b a) (any? (straddles (keyOf (own c g .guest) dom) a b) (part c g w .records)))
       go true x = ap (λ y. statusOf (unmapChain false (not (eqb z 0)) (ltb b a) y)) (straddle-is dom a b (existing-small dom x))
       go false x = refl
@@ -330,8 +330,8 @@ module _ (c : Config) (k : kept c ≡ c) (w : World) (h : Whole c w) (g : Guest)
   replace-log : (l : Log) → replace c g (withLog l (part c g w)) w ≡ withLogs (set (w .logs) (g .0) l) w
   replace-log l = unfold replace in rw (attachments-same c w h g, records-same c w h g)
 
-  pub fault-written : (f : Fault) → device (faultLogged (write c w .state) g f) (write c w .table) ≡ write c (replace c g (withLog (logged f (part c g w .log)) (part c g w)) w)
+  pub fault-written : (f : Fault) → device (logFault (write c w .state) g f) (write c w .table) ≡ write c (replace c g (withLog (logged f (part c g w .log)) (part c g w)) w)
   fault-written f = rw (replace-log (logged f (part c g w .log))) (unfold write part in rw (logged-written c w h (g .0) m f))
 
-  pub fetch-written : (n : ℕ) → device (faultsDropped (write c w .state) g n) (write c w .table) ≡ write c (replace c g (withLog (fetchedFrom n (part c g w .log)) (part c g w)) w)
+  pub fetch-written : (n : ℕ) → device (dropFaults (write c w .state) g n) (write c w .table) ≡ write c (replace c g (withLog (fetchedFrom n (part c g w .log)) (part c g w)) w)
   fetch-written n = rw (replace-log (fetchedFrom n (part c g w .log))) (unfold write part in rw (dropped-written c w h (g .0) m n))

@@ -19,16 +19,17 @@ use Rattle.rules.specs.Sizes.{maxEndpoints, maxRecords}
 use Rattle.rules.specs.Configuration.{Config}
 use Rattle.rules.specs.Table.{insertMapping, records}
 use Rattle.rules.specs.State.{Attachment, Log, World, flagOf, numberOf, stateOf, write}
-use Rattle.rules.specs.Handlers.{isIn, exists}
+use Rattle.rules.specs.Handlers.{isIn, domainExists}
 use Rattle.rules.proofs.Groups.{Good}
 use Rattle.rules.proofs.Records.{length-insert}
 use Rattle.rules.proofs.Words.{records-tableOf}
 use Rattle.table_remove.specs.Removed.{within, keptOf}
 use Rattle.table_insert.proofs.Inserted.{inserted-table}
 use Rattle.table_remove.proofs.Removed.{removed-table}
-use Rattle.state_endpoints.specs.Changes.{attachedAt}
+use Rattle.state_endpoints.specs.Changes.{attachAt}
 use Rattle.state_endpoints.specs.Search.{anyBelow, belongs}
-use Rattle.refinement.specs.Flat.{domainExists, removed, inserted}
+use Rattle.refinement.specs.Flat.{removed, inserted}
+use Rattle.refinement.specs.Flat as flat
 
 -- a world with one thing changed
 abbrev pub withAtts : List Attachment → World → World
@@ -50,9 +51,9 @@ set-tab m f g i v e h = sym (tab-is m g (set (tab m f) i v) 0 (length-set (tab m
 
 -- ATTACHMENTS
 
-pub attached-written : (c : Config) (w : World) (i : ℕ) (a : Attachment) → i < length (w .attachments) → attachedAt (stateOf c w) i (flagOf a) (record { 0 = numberOf a }) ≡ stateOf c (withAtts (set (w .attachments) i a) w)
+pub attached-written : (c : Config) (w : World) (i : ℕ) (a : Attachment) → i < length (w .attachments) → attachAt (stateOf c w) i (flagOf a) (record { 0 = numberOf a }) ≡ stateOf c (withAtts (set (w .attachments) i a) w)
 attached-written c w i a l =
-    unfold attachedAt stateOf in
+    unfold attachAt stateOf in
     rw (field flagOf, field numberOf)
   where
     field : (q : Attachment → ℕ) → set (tab maxEndpoints (λ j. q (getD (w .attachments) j none))) i (q a) ≡ tab maxEndpoints (λ j. q (getD (set (w .attachments) i a) j none))
@@ -117,9 +118,9 @@ module _ (c : Config) (good-c : Good c) (w : World) (size : length (w .attachmen
       go none = refl
       go (some e) = refl
 
-  pub exists-written : (g : Guest) (dom : Domain) → domainExists (stateOf c w) g dom ≡ exists dom (pickBy (g .0) (c .owners) (w .attachments))
+  pub exists-written : (g : Guest) (dom : Domain) → flat.domainExists (stateOf c w) g dom ≡ domainExists dom (pickBy (g .0) (c .owners) (w .attachments))
   exists-written g dom =
-      unfold domainExists exists in
+      unfold flat.domainExists domainExists in
       (rw sizes (same-test _ _
       (λ x. let r = any-at maxEndpoints _ x in owned-from (g .0) (isIn dom) (c .owners) (w .attachments) (r .0) (inside (r .0) (rw (belongs-at g dom (r .0) (r .1)) at (r .2))) (omega (arith, size)) (rw (belongs-at g dom (r .0) (r .1)) at (r .2)))
       (λ x. let r = owned-at (g .0) (isIn dom) (c .owners) (w .attachments) x in any-from maxEndpoints _ (r .0) (small (r .1)) (rw (belongs-at g dom (r .0) (small (r .1))) (r .2)))))

@@ -12,12 +12,12 @@ use Rattle.rules.specs.declared.Refusal.{Refusal}
 use Rattle.rules.specs.declared.Refusal.the-variants.{NoSuchGuest, Unsound}
 use Rattle.rules.specs.State.{Device}
 use Rattle.rules.specs.Device.{Reply}
-use Rattle.state_log.specs.Dropped.{faultsDropped}
+use Rattle.state_log.specs.Dropped.{dropFaults}
 use Rattle.refinement.specs.Flat.{device, fetchCount, fetchBytes}
 
 -- n of guest g's faults given and gone
 unfoldable pub fetched : State → Guest → ℕ → List ℕ → Reply × State
-fetched s g n buffer = (record { answer = Fetched n; buffer = fetchBytes s g n buffer }, faultsDropped s g n)
+fetched s g n buffer = (record { answer = Fetched n; buffer = fetchBytes s g n buffer }, dropFaults s g n)
 
 -- a fetch that is refused leaves all as it was
 unfoldable pub unfetched : State → Refusal → List ℕ → Reply × State

@@ -28,8 +28,8 @@ use Rattle.rules.specs.Access.{findMapping, faultOf, bytesOf}
 use Rattle.table_insert.specs.Inserted.{insertedWords}
 use Rattle.table_remove.specs.Removed.{keptOf, removedWords}
 use Rattle.state_fields.specs.Fields.{withLive}
-use Rattle.state_endpoints.specs.Changes.{attachedAt}
-use Rattle.state_log.specs.Changes.{faultLogged}
+use Rattle.state_endpoints.specs.Changes.{attachAt}
+use Rattle.state_log.specs.Changes.{logFault}
 use Rattle.state_reset.specs.Changes.{guestCleared}
 use Rattle.state_endpoints.specs.Search.{indexOf, anyBelow, belongs}
 
@@ -82,21 +82,21 @@ inserted d r = device (withLive (suc (d .state .live)) (d .state)) (insertedWord
 -- ATTACH AND DETACH
 
 -- the endpoint at place i leaves domain dom; with its last endpoint the domain's records go
-unfoldable pub left : Device → Guest → ℕ → Domain → Device
-left d g i dom =
-    cond (domainExists (attachedAt (d .state) i 0 noDomain) g dom) (device (attachedAt (d .state) i 0 noDomain) (d .table))
-    (removed (device (attachedAt (d .state) i 0 noDomain) (d .table)) (keyOf g dom) (keyOf g dom) 0 topAddress)
+unfoldable pub leave : Device → Guest → ℕ → Domain → Device
+leave d g i dom =
+    cond (domainExists (attachAt (d .state) i 0 noDomain) g dom) (device (attachAt (d .state) i 0 noDomain) (d .table))
+    (removed (device (attachAt (d .state) i 0 noDomain) (d .table)) (keyOf g dom) (keyOf g dom) 0 topAddress)
 
 -- the endpoint at place i enters domain dom
-unfoldable pub entered : Device → ℕ → Domain → Device
-entered d i dom = device (attachedAt (d .state) i 1 dom) (d .table)
+unfoldable pub enter : Device → ℕ → Domain → Device
+enter d i dom = device (attachAt (d .state) i 1 dom) (d .table)
 
 -- the endpoint at place i moves to domain dom, out of the one that it was in
-unfoldable pub moved : Device → Guest → ℕ → Domain → Device
-moved d g i dom =
+unfoldable pub moveTo : Device → Guest → ℕ → Domain → Device
+moveTo d g i dom =
     cond (isAttached (d .state) i)
-    (cond (eqb (getD (d .state .domains) i 0) (dom .0)) d (entered (left d g i (domainAt (d .state) i)) i dom))
-    (entered d i dom)
+    (cond (eqb (getD (d .state .domains) i 0) (dom .0)) d (enter (leave d g i (domainAt (d .state) i)) i dom))
+    (enter d i dom)
 
 -- the status, with e where it is OK, else with d
 abbrev pub settled : ℕ → Device → Device → StatusAndDevice
@@ -108,7 +108,7 @@ attachStatus s g dom i reserved =
     statusOf (attachChain (not (eqb reserved 0)) (not (ownedAt s g i)) (outside (s .settings .domains .start) (s .settings .domains .end) (dom .0)))
 
 unfoldable pub handleAttach : Device → Guest → Domain → Endpoint → ℕ → StatusAndDevice
-handleAttach d g dom e reserved = settled (attachStatus (d .state) g dom (endpointIndex (d .state) e) reserved) d (moved d g (endpointIndex (d .state) e) dom)
+handleAttach d g dom e reserved = settled (attachStatus (d .state) g dom (endpointIndex (d .state) e) reserved) d (moveTo d g (endpointIndex (d .state) e) dom)
 
 -- the status of a DETACH of the endpoint at place i
 unfoldable pub detachStatus : State → Guest → Domain → ℕ → ℕ → ℕ
@@ -116,7 +116,7 @@ detachStatus s g dom i reserved =
     statusOf (detachChain (not (eqb reserved 0)) (not (ownedAt s g i)) (not (isAttached s i && eqb (getD (s .domains) i 0) (dom .0))))
 
 unfoldable pub handleDetach : Device → Guest → Domain → Endpoint → ℕ → StatusAndDevice
-handleDetach d g dom e reserved = settled (detachStatus (d .state) g dom (endpointIndex (d .state) e) reserved) d (left d g (endpointIndex (d .state) e) dom)
+handleDetach d g dom e reserved = settled (detachStatus (d .state) g dom (endpointIndex (d .state) e) reserved) d (leave d g (endpointIndex (d .state) e) dom)
 
 -- MAP AND UNMAP
 
@@ -177,7 +177,7 @@ afterAccess s a (Served n) = s
 afterAccess s a (Through x) = s
 afterAccess s a (Fetched n) = s
 afterAccess s a (Refused e) = s
-afterAccess s a (Blocked c) = faultLogged s (ownerAt s (endpointIndex s (a .endpoint))) (faultOf c a)
+afterAccess s a (Blocked c) = logFault s (ownerAt s (endpointIndex s (a .endpoint))) (faultOf c a)
 
 -- FETCH
 

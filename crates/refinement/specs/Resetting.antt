@@ -11,7 +11,7 @@ use Rattle.rules.specs.declared.Answer.the-variants.{Done, Refused}
 use Rattle.rules.specs.declared.Refusal.the-variants.{NoSuchGuest}
 use Rattle.rules.specs.State.{Device}
 use Rattle.rules.specs.Device.{Reply}
-use Rattle.state_reset.specs.Changes.{logCleared, endpointsDetached}
+use Rattle.state_reset.specs.Changes.{clearLog, detachAll}
 use Rattle.refinement.specs.Flat.{device, recordsCleared}
 
 -- guest g is one of so many, and has places
@@ -24,13 +24,13 @@ resetAnswer guests g = cond (isGuest guests g) Done (Refused NoSuchGuest)
 
 -- the state with guest g's log emptied, where g is a guest of so many
 unfoldable pub logsReset : ℕ → State → Guest → State
-logsReset guests s g = cond (isGuest guests g) (logCleared s g) s
+logsReset guests s g = cond (isGuest guests g) (clearLog s g) s
 
 -- the device with guest g's endpoints detached and its records gone, where g is a guest of so many
 unfoldable pub domainsReset : ℕ → Device → Guest → Device
 domainsReset guests d g =
     cond (isGuest guests g)
-    (recordsCleared (device (endpointsDetached (d .state) g) (d .table)) g)
+    (recordsCleared (device (detachAll (d .state) g) (d .table)) g)
     d
 
 -- a reset of guest g, of so many guests: the reply, and the device afterwards

@@ -13,7 +13,7 @@ use Rattle.laws.proofs.Tests.{both, both-left, both-right, or-cases, or-left, o
 use Rattle.rules.specs.declared.Endpoint.{Endpoint}
 use Rattle.rules.specs.declared.Domain.{Domain}
 use Rattle.rules.specs.State.{Attachment}
-use Rattle.rules.specs.Handlers.{isIn, exists, attachmentOf, attachedAs}
+use Rattle.rules.specs.Handlers.{isIn, domainExists, attachmentOf, attachedAs}
 
 pub length-attachedAs : (e : Endpoint) (b : Attachment) (es : List ℕ) (l : List Attachment) → length (attachedAs e b es l) ≡ length l
 length-attachedAs e b [] l = refl
@@ -34,8 +34,8 @@ all-attachedAs q e b (k ∷ es) (a ∷ l) hb h = go (eqb k (e .0)) (all-attached
     go false ih = both (q a) (all? q (attachedAs e b es l)) (both-left (q a) (all? q l) h) ih
 
 -- where the endpoint is not in domain d, d does not lose its last endpoint by it
-pub exists-attachedAs : (d : Domain) (e : Endpoint) (b : Attachment) (es : List ℕ) (l : List Attachment) → isIn d (attachmentOf e es l) ≡ false → exists d l ≡ true → exists d (attachedAs e b es l) ≡ true
-unfolding exists
+pub exists-attachedAs : (d : Domain) (e : Endpoint) (b : Attachment) (es : List ℕ) (l : List Attachment) → isIn d (attachmentOf e es l) ≡ false → domainExists d l ≡ true → domainExists d (attachedAs e b es l) ≡ true
+unfolding domainExists
 exists-attachedAs d e b [] l f h = h
 exists-attachedAs d e b (k ∷ es) [] f h = h
 exists-attachedAs d e b (k ∷ es) (a ∷ l) f h = go (eqb k (e .0)) f (λ g i. exists-attachedAs d e b es l g i)

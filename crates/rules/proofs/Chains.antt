@@ -17,7 +17,7 @@ use Rattle.rules.specs.State.{Attachment}
 use Rattle.rules.specs.Guests.{Own, Part}
 use Rattle.rules.specs.Requests.{OK}
 use Rattle.rules.specs.Sound.{passes}
-use Rattle.rules.specs.Handlers.{Steps, orOK, statusOf, settle, outside, isIn, exists, listed, attachmentOf, granularity, attachSteps, detachSteps, formSteps, recordSteps, mapSteps, unmapSteps}
+use Rattle.rules.specs.Handlers.{Steps, orOK, statusOf, settle, outside, isIn, domainExists, listed, attachmentOf, granularity, attachSteps, detachSteps, formSteps, recordSteps, mapSteps, unmapSteps}
 
 -- STATUSES
 
@@ -98,7 +98,7 @@ formed o r c =
 
 -- its steps 1 to 6
 pub record Recorded (o : Own) (l : List Attachment) (d : Domain) (r : Mapping) : Type 0 where
-  pub there : exists d l ≡ true
+  pub there : domainExists d l ≡ true
   pub form : Clear (formSteps o r)
 
 pub recorded : (o : Own) (l : List Attachment) (d : Domain) (r : Mapping) → Clear (recordSteps o l d r) → Recorded o l d r
@@ -119,5 +119,5 @@ maps o p d r c =
       room = leb-false (o .share) (length (p .records)) (late .1 .0);
     }
 
-pub unmap-there : (o : Own) (p : Part) (d : Domain) (a b z : ℕ) → Clear (unmapSteps o p d a b z) → exists d (p .attachments) ≡ true
+pub unmap-there : (o : Own) (p : Part) (d : Domain) (a b z : ℕ) → Clear (unmapSteps o p d a b z) → domainExists d (p .attachments) ≡ true
 unmap-there o p d a b z c = not-false _ (c .0)

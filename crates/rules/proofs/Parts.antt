@@ -25,7 +25,7 @@ use Rattle.rules.specs.Table.{keyOf, guestOf, domainOf, before, overlap,
 use Rattle.rules.specs.State.{Attachment, Log}
 use Rattle.rules.specs.Guests.{Own, Part, withRecords, withLog}
 use Rattle.rules.specs.Requests.{requestRefusals, typeOf, ATTACH, DETACH, MAP, domainField, endpointField, attachReserved, virtStart, virtEnd, unmapReserved, UNMAP}
-use Rattle.rules.specs.Handlers.{outside, isIn, exists, listed, attachmentOf, attachedAs, ofKey, without, leave, enter, moveFrom, attached, attachSteps, handleAttach, detachSteps, handleDetach, formSteps, recordSteps, mapSteps, handleMap, unmapSteps, handleUnmap, askedFor, handle}
+use Rattle.rules.specs.Handlers.{outside, isIn, domainExists, listed, attachmentOf, attachedAs, ofKey, without, leave, enter, moveFrom, attached, attachSteps, handleAttach, detachSteps, handleDetach, formSteps, recordSteps, mapSteps, handleMap, unmapSteps, handleUnmap, askedFor, handle}
 use Rattle.rules.specs.Access.{logged, reasonOf, faultOf, blocked, translated, findMapping, decided, access, afterReset, fetchable, fetchedFrom}
 use Rattle.rules.specs.Sound.{passes, faultGood, recordGood, inRange}
 use Rattle.rules.specs.Device.{Job, request, reset, fetch, Call, of-guest, access-by, requested, jobRule, rule}
@@ -57,7 +57,7 @@ passes-none (some a) h = absurd (let z : _≡_ {A = ℕ} 0 1 = cc in omega arith
 
 -- RECORDS
 
-pub record-exists : (o : Own) (l : List Attachment) (r : Mapping) → recordGood o l r ≡ true → exists (domainOf r) l ≡ true
+pub record-exists : (o : Own) (l : List Attachment) (r : Mapping) → recordGood o l r ≡ true → domainExists (domainOf r) l ≡ true
 unfolding recordGood
 record-exists o l r h = recorded o l (domainOf r) r (cleared (recordSteps o l (domainOf r) r) (passes-none _ h)) .there
 
@@ -65,7 +65,7 @@ pub record-form : (o : Own) (l : List Attachment) (r : Mapping) → recordGood o
 unfolding recordGood
 record-form o l r h = recorded o l (domainOf r) r (cleared (recordSteps o l (domainOf r) r) (passes-none _ h)) .form
 
-pub record-ok : (o : Own) (l : List Attachment) (r : Mapping) → exists (domainOf r) l ≡ true → Clear (formSteps o r) → recordGood o l r ≡ true
+pub record-ok : (o : Own) (l : List Attachment) (r : Mapping) → domainExists (domainOf r) l ≡ true → Clear (formSteps o r) → recordGood o l r ≡ true
 unfolding recordGood
 record-ok o l r h f = rw (passed (recordSteps o l (domainOf r) r) (rw h, f))
 
@@ -78,8 +78,8 @@ record-wide o l r g = form-wide o r (record-form o l r g)
 
 -- DOMAINS
 
-pub in-range : (o : Own) (d : Domain) (l : List Attachment) → exists d l ≡ true → all? (inRange o) l ≡ true → outside (o .domains .start) (o .domains .end) (d .0) ≡ false
-unfolding exists
+pub in-range : (o : Own) (d : Domain) (l : List Attachment) → domainExists d l ≡ true → all? (inRange o) l ≡ true → outside (o .domains .start) (o .domains .end) (d .0) ≡ false
+unfolding domainExists
 in-range o d [] h a = true-false true refl (sym h)
 in-range o d (b ∷ l) h a = go (isIn d b) refl h (λ k. in-range o d l k (both-right (inRange o b) (all? (inRange o) l) a))
   where
@@ -137,7 +137,7 @@ leave-facts o p e d h f =
     new = attachedAs e none (o .endpoints) (p .attachments)
 
     gone : Mapping → Bool
-    gone r = not (exists d new) && ofKey (keyOf (o .guest) d) r
+    gone r = not (domainExists d new) && ofKey (keyOf (o .guest) d) r
 
     both-ok : Mapping → Bool
     both-ok r = mine (o .guest) r && recordGood o (p .attachments) r
@@ -152,14 +152,14 @@ leave-facts o p e d h f =
     still : (r : Mapping) → not (gone r) ≡ true → mine (o .guest) r ≡ true → recordGood o (p .attachments) r ≡ true → recordGood o new r ≡ true
     still r k m g = record-ok o new r (go (eqb (domainOf r .0) (d .0)) refl) (record-form o (p .attachments) r g)
       where
-        here : (b : Bool) → exists d new ≡ b → not (not b && ofKey (keyOf (o .guest) d) r) ≡ true → ofKey (keyOf (o .guest) d) r ≡ true → exists d new ≡ true
+        here : (b : Bool) → domainExists d new ≡ b → not (not b && ofKey (keyOf (o .guest) d) r) ≡ true → ofKey (keyOf (o .guest) d) r ≡ true → domainExists d new ≡ true
         here true x k q = x
         here false x k q = true-false true refl (sym (rw q at k))
 
-        go : (b : Bool) → eqb (domainOf r .0) (d .0) ≡ b → exists (domainOf r) new ≡ true
+        go : (b : Bool) → eqb (domainOf r .0) (d .0) ≡ b → domainExists (domainOf r) new ≡ true
         go true x =
             let same : domainOf r ≡ d = ap (λ n. record { 0 = n }) (eqb-true (domainOf r .0) (d .0) x) in
-            rw same (here (exists d new) refl k (unfold ofKey in eq-eqb (r .key) (keyOf (o .guest) d) (key-of o d r m x)))
+            rw same (here (domainExists d new) refl k (unfold ofKey in eq-eqb (r .key) (keyOf (o .guest) d) (key-of o d r m x)))
         go false x = exists-attachedAs (domainOf r) e none (o .endpoints) (p .attachments) (in-one d (domainOf r) _ h x) (record-exists o (p .attachments) r g)
 
 pub enter-facts : (o : Own) (p : Part) (e : Endpoint) (d : Domain) → ((c : Domain) → isIn c (attachmentOf e (o .endpoints) (p .attachments)) ≡ false)

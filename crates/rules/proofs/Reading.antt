@@ -20,7 +20,7 @@ use Rattle.rules.specs.Configuration.{Config}
 use Rattle.rules.specs.Table.{guestOf, domainOf, before, apart}
 use Rattle.rules.specs.State.{Device, noLog, configOf, attachment, attachmentAt, faultAt, logAt, read}
 use Rattle.rules.specs.Guests.{own, part}
-use Rattle.rules.specs.Handlers.{outside, isIn, exists}
+use Rattle.rules.specs.Handlers.{outside, isIn, domainExists}
 use Rattle.rules.specs.Sound.{guest, recordGood, recordPasses, attachmentGood, inRange, flagGood, faultGood, faultZero, faultUsed, faultPlaceGood, sound}
 use Rattle.rules.proofs.Records.{mine, before-upward}
 use Rattle.rules.proofs.Groups.{Good, good-facts, Framed, Sound, sound-facts, LogFacts, Common}
@@ -65,7 +65,7 @@ module _ (d : Device) (h : sound d ≡ true) where
   sizes = frame-sizes d (facts .frame)
 
   record-guest : (r : Mapping) → recordPasses config (read d) r ≡ true → guestOf r < config .settings .guests
-  record-guest r k = unfold exists in owner-among (isIn (domainOf r)) (config .settings .guests) (guestOf r) (config .owners) (read d .attachments) (sound-good .owners) (unfold part in record-exists (own config (guest (guestOf r))) (part config (guest (guestOf r)) (read d) .attachments) r k)
+  record-guest r k = unfold domainExists in owner-among (isIn (domainOf r)) (config .settings .guests) (guestOf r) (config .owners) (read d .attachments) (sound-good .owners) (unfold part in record-exists (own config (guest (guestOf r))) (part config (guest (guestOf r)) (read d) .attachments) r k)
 
   all-of-guests : all? (λ r. ltb (guestOf r) (config .settings .guests)) (read d .records) ≡ true
   all-of-guests = all-imp (recordPasses config (read d)) (λ r. ltb (guestOf r) (config .settings .guests)) (read d .records) (λ r k. lt-ltb _ _ (record-guest r k)) (facts .records .passing)

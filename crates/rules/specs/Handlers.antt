@@ -46,8 +46,8 @@ isIn d none = false
 isIn d (some e) = eqb (e .0) (d .0)
 
 -- "A domain exists for a guest exactly while at least one of its endpoints is attached to it." (document 01's term)
-unfoldable pub exists : Domain → List Attachment → Bool
-exists d l = any? (isIn d) l
+unfoldable pub domainExists : Domain → List Attachment → Bool
+domainExists d l = any? (isIn d) l
 
 -- endpoint e is among the guest's own
 unfoldable pub listed : Endpoint → List ℕ → Bool
@@ -77,7 +77,7 @@ without q l = keep (λ r. not (q r)) l
 unfoldable pub leave : Own → Endpoint → Domain → Part → Part
 leave o e d p =
     withAttachments (attachedAs e none (o .endpoints) (p .attachments))
-    (withRecords (without (λ r. not (exists d (attachedAs e none (o .endpoints) (p .attachments))) && ofKey (keyOf (o .guest) d) r) (p .records)) p)
+    (withRecords (without (λ r. not (domainExists d (attachedAs e none (o .endpoints) (p .attachments))) && ofKey (keyOf (o .guest) d) r) (p .records)) p)
 
 -- endpoint e, in no domain, enters domain d
 unfoldable pub enter : Own → Endpoint → Domain → Part → Part
@@ -184,7 +184,7 @@ recordChain missing form =
 
 -- their tests, which soundness asks of every record too
 abbrev pub recordSteps : Own → List Attachment → Domain → Mapping → Steps
-recordSteps o l d r = recordChain (not (exists d l)) (formSteps o r)
+recordSteps o l d r = recordChain (not (domainExists d l)) (formSteps o r)
 
 -- MAP's chain of steps, where form is that of steps 2 to 6
 abbrev pub mapChain : (missing : Bool) (form : Steps) (meets full : Bool) → Steps
@@ -200,7 +200,7 @@ mapChain missing form meets full =
 abbrev pub mapSteps : Own → Part → Domain → Mapping → Steps
 mapSteps o p d r =
     mapChain
-    (not (exists d (p .attachments)))
+    (not (domainExists d (p .attachments)))
     (formSteps o r)
     (any? (overlap r) (p .records))
     (leb (o .share) (length (p .records)))
@@ -236,7 +236,7 @@ unmapChain missing reserved order cut =
 abbrev pub unmapSteps : Own → Part → Domain → ℕ → ℕ → ℕ → Steps
 unmapSteps o p d a b reserved =
     unmapChain
-    (not (exists d (p .attachments)))
+    (not (domainExists d (p .attachments)))
     (not (eqb reserved 0))
     (ltb b a)
     (any? (straddles (keyOf (o .guest) d) a b) (p .records))

@@ -17,13 +17,13 @@ use Rattle.rules.specs.State.{Attachment, Device, read}
 use Rattle.rules.specs.Guests.{Own, Part, own, part}
 use Rattle.rules.specs.Answers.{usedLength}
 use Rattle.rules.specs.Requests.{OK, ATTACH, DETACH, MAP, UNMAP, requestRefusals, typeOf, domainField, endpointField, virtStart, virtEnd}
-use Rattle.rules.specs.Handlers.{isIn, exists, attachmentOf, attachedAs, ofKey, inside, handle}
+use Rattle.rules.specs.Handlers.{isIn, domainExists, attachmentOf, attachedAs, ofKey, inside, handle}
 use Rattle.rules.specs.Sound.{passes}
 use Rattle.rules.specs.Device.{Job, request, reset, fetch, Call, of-guest, access-by, Reply, owns, step}
 
 -- a detach of endpoint e from domain d takes the record away: e was the domain's last endpoint, and the record is the domain's
 abbrev pub goneWithDomain : Own → Part → Endpoint → Domain → Mapping → Bool
-goneWithDomain o p e d r = not (exists d (attachedAs e none (o .endpoints) (p .attachments))) && ofKey (keyOf (o .guest) d) r
+goneWithDomain o p e d r = not (domainExists d (attachedAs e none (o .endpoints) (p .attachments))) && ofKey (keyOf (o .guest) d) r
 
 -- a move of endpoint e into domain d takes the record away: as a detach from where e was, unless e was there already
 abbrev pub goneByMove : Own → Part → Endpoint → Domain → Attachment → Mapping → Bool

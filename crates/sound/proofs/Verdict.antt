@@ -21,7 +21,7 @@ use Rattle.rules.specs.Table.{records, guestOf, domainOf}
 use Rattle.rules.specs.State.{Device, configOf, read}
 use Rattle.rules.specs.Guests.{own, part, recordsOf}
 use Rattle.rules.specs.Requests.{NOENT}
-use Rattle.rules.specs.Handlers.{exists, isIn, formSteps}
+use Rattle.rules.specs.Handlers.{domainExists, isIn, formSteps}
 use Rattle.rules.specs.Sound.{guest, passes, zeroFrom, recordGood, recordPasses, sharesKept, frameTests, placeTests, logTests, sound}
 use Rattle.rules.proofs.Words.{length-records}
 use Rattle.rules.proofs.Records.{wide}
@@ -142,7 +142,7 @@ module _ (d : Device) (f : Framed d) where
   record-is r = steps (domain r) (firstFailing (formSteps (own (configOf (d .state)) (guest (guestOf r))) r)) ∙ go (domain r) refl
     where
       among : domain r ≡ true → guestOf r < d .state .settings .guests
-      among e = unfold exists in owner-among (isIn (domainOf r)) (d .state .settings .guests) (guestOf r) (take (d .state .listed) (d .state .owners)) (read d .attachments) (configured d f .owners) e
+      among e = unfold domainExists in owner-among (isIn (domainOf r)) (d .state .settings .guests) (guestOf r) (take (d .state .listed) (d .state .owners)) (read d .attachments) (configured d f .owners) e
 
       go : (b : Bool) → domain r ≡ b → (b && passes (firstFailing (formSteps (own (configOf (d .state)) (guest (guestOf r))) r))) ≡ (form r && b)
       go true e = rw (lt-ltb (guestOf r) (d .state .settings .guests) (among e)) (sym (and-true _))

@@ -13,7 +13,7 @@ use Rattle.rules.specs.Sizes.{maxGuests, maxEndpoints}
 use Rattle.rules.specs.Configuration.{windowFirst, windowLast}
 use Rattle.rules.specs.State.{Attachment, attachment}
 use Rattle.rules.specs.Table.{records, guestOf, domainOf}
-use Rattle.rules.specs.Handlers.{exists}
+use Rattle.rules.specs.Handlers.{domainExists}
 use Rattle.rules.specs.Sound.{guest}
 use Rattle.map_steps.specs.Forms.{formGood}
 
@@ -31,7 +31,7 @@ ownGood s r = ltb (guestOf r) (s .guests) && formGood (s .mask) (s .input) (wind
 
 -- a domain exists for a guest, by an attachment of one of the first n endpoints
 abbrev pub domainHeld : ℕ → List ℕ → List ℕ → List ℕ → Guest → Domain → Bool
-domainHeld n owners attached domains g d = exists d (attachmentsOf g n owners attached domains)
+domainHeld n owners attached domains g d = domainExists d (attachmentsOf g n owners attached domains)
 
 -- step 1 of MAP passes: the record's domain exists for its guest
 unfoldable pub domainGood : ℕ → List ℕ → List ℕ → List ℕ → Mapping → Bool

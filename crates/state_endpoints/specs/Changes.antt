@@ -6,5 +6,5 @@ use Rattle.rules.specs.declared.State.{State}
 use Rattle.state_fields.specs.Fields.{withAttached}
 
 -- the endpoint at place i gets this flag and domain
-unfoldable pub attachedAt : State → ℕ → ℕ → Domain → State
-attachedAt s i flag d = withAttached (set (s .attached) i flag) (set (s .domains) i (d .0)) s
+unfoldable pub attachAt : State → ℕ → ℕ → Domain → State
+attachAt s i flag d = withAttached (set (s .attached) i flag) (set (s .domains) i (d .0)) s

@@ -5,7 +5,7 @@ ghost use mathlib.Core.Path.{_≡_};
 ghost use lib.ListN.{getD, set};
 ghost use Rattle.rules.specs.declared.State.{State};
 ghost use Rattle.state_fields.specs.Fields.{withAttached};
-ghost use Rattle.state_endpoints.specs.Changes.{attachedAt};
+ghost use Rattle.state_endpoints.specs.Changes.{attachAt};
 use rules::Domain;
 use rules::sizes::MAX_ENDPOINTS;
 pub use search::domain_exists;
@@ -57,7 +57,7 @@ pub fn attach_at<'a>(
     flag: u8,
     d: Domain,
 )
-    ensures { λ _. ⌜ ((s : State) → withAttached (now (attached .exit)) (now (domains .exit)) s ≡ attachedAt (withAttached (now (attached .entry)) (now (domains .entry)) s) i flag d) ⌝ }
+    ensures { λ _. ⌜ ((s : State) → withAttached (now (attached .exit)) (now (domains .exit)) s ≡ attachAt (withAttached (now (attached .entry)) (now (domains .entry)) s) i flag d) ⌝ }
 {
     put_flag(attached, i, flag);
     put_domain(domains, i, d);

@@ -16,7 +16,7 @@ use Rattle.rules.specs.Sizes.{maxGuests, maxFaults}
 use Rattle.rules.specs.declared.Guest.{Guest}
 use Rattle.rules.specs.declared.State.{State}
 use Rattle.state_fields.specs.Fields.{withCounts, withFaults}
-use Rattle.state_log.specs.Dropped.{shifted, shiftedAll, faultsDropped}
+use Rattle.state_log.specs.Dropped.{shifted, shiftedAll, dropFaults}
 use Rattle.state_fields.proofs.Rewriting.{Written, written-from, written-to}
 use Rattle.state_log.proofs.Storing.{store-any}
 
@@ -81,8 +81,8 @@ module _ (s : State) (g : Guest) (k : ℕ) (none : (leb maxGuests (g .0) || eqb 
   none-counted : k ≡ 0 → (l : List ℕ) → set l (g .0) (getD l (g .0) 0 - k) ≡ l
   none-counted z l = rw (z, sub-zero) (set-getD l (g .0) 0)
 
-  pub none-dropped : s ≡ faultsDropped s g k
-  unfolding faultsDropped
+  pub none-dropped : s ≡ dropFaults s g k
+  unfolding dropFaults
   none-dropped = go (ltb (g .0) maxGuests) refl
     where
       go : (b : Bool) → ltb (g .0) maxGuests ≡ b

@@ -16,8 +16,8 @@ faultStored s i f =
 
 -- a fault logged for guest g: kept where there is room, else the lost count rises by one until its limit; nothing for a guest number that
 -- has no place
-unfoldable pub faultLogged : State → Guest → Fault → State
-faultLogged s g f =
+unfoldable pub logFault : State → Guest → Fault → State
+logFault s g f =
     cond (ltb (g .0) maxGuests)
     (cond (ltb (getD (s .logged) (g .0) 0) maxFaults)
     (withCounts (set (s .logged) (g .0) (suc (getD (s .logged) (g .0) 0))) (s .lost) (faultStored s (maxFaults * g .0 + getD (s .logged) (g .0) 0) f))

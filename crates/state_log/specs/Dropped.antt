@@ -19,8 +19,8 @@ abbrev pub shiftedAll : Guest → ℕ → List ℕ → List ℕ
 shiftedAll g k l = tab (length l) (shifted g k l)
 
 -- guest g's k oldest faults gone; nothing for a guest number that has no place
-unfoldable pub faultsDropped : State → Guest → ℕ → State
-faultsDropped s g k =
+unfoldable pub dropFaults : State → Guest → ℕ → State
+dropFaults s g k =
     cond (ltb (g .0) maxGuests)
     (withCounts (set (s .logged) (g .0) (getD (s .logged) (g .0) 0 - k)) (s .lost)
     (withFaults (shiftedAll g k (s .reasons)) (shiftedAll g k (s .flags)) (shiftedAll g k (s .sources)) (shiftedAll g k (s .addresses)) s))

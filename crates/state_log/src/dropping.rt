@@ -2,7 +2,7 @@
 ghost use mathlib.Core.Path.{_≡_};
 ghost use Rattle.rules.specs.declared.State.{State};
 ghost use Rattle.state_fields.specs.Fields.{withLogs};
-ghost use Rattle.state_log.specs.Dropped.{faultsDropped};
+ghost use Rattle.state_log.specs.Dropped.{dropFaults};
 use crate::shifting::shift_faults;
 use rules::Guest;
 use rules::sizes::FAULT_PLACES;
@@ -19,7 +19,7 @@ pub fn drop_faults<'a>(
     g: Guest,
     k: usize,
 )
-    ensures { λ _. ⌜ ((s : State) → withLogs (now (logged .exit)) (s .lost) (now (reasons .exit)) (now (flags .exit)) (now (sources .exit)) (now (addresses .exit)) s ≡ faultsDropped (withLogs (now (logged .entry)) (s .lost) (now (reasons .entry)) (now (flags .entry)) (now (sources .entry)) (now (addresses .entry)) s) g k) ⌝ }
+    ensures { λ _. ⌜ ((s : State) → withLogs (now (logged .exit)) (s .lost) (now (reasons .exit)) (now (flags .exit)) (now (sources .exit)) (now (addresses .exit)) s ≡ dropFaults (withLogs (now (logged .entry)) (s .lost) (now (reasons .entry)) (now (flags .entry)) (now (sources .entry)) (now (addresses .entry)) s) g k) ⌝ }
 {
     let guest = g.0 as usize;
     if (guest >= MAX_GUESTS) | (k == 0) {

@@ -7,7 +7,7 @@ ghost use mathlib.Core.Path.{_≡_};
 ghost use lib.ListN.{getD};
 ghost use Rattle.rules.specs.declared.State.{State};
 ghost use Rattle.state_fields.specs.Fields.{withLogs};
-ghost use Rattle.state_log.specs.Changes.{faultLogged};
+ghost use Rattle.state_log.specs.Changes.{logFault};
 use rules::Fault;
 use rules::Guest;
 use rules::sizes::FAULT_PLACES;
@@ -26,7 +26,7 @@ pub fn log_fault<'a>(
     g: Guest,
     f: Fault,
 )
-    ensures { λ _. ⌜ ((s : State) → withLogs (now (logged .exit)) (now (lost .exit)) (now (reasons .exit)) (now (flags .exit)) (now (sources .exit)) (now (addresses .exit)) s ≡ faultLogged (withLogs (now (logged .entry)) (now (lost .entry)) (now (reasons .entry)) (now (flags .entry)) (now (sources .entry)) (now (addresses .entry)) s) g f) ⌝ }
+    ensures { λ _. ⌜ ((s : State) → withLogs (now (logged .exit)) (now (lost .exit)) (now (reasons .exit)) (now (flags .exit)) (now (sources .exit)) (now (addresses .exit)) s ≡ logFault (withLogs (now (logged .entry)) (now (lost .entry)) (now (reasons .entry)) (now (flags .entry)) (now (sources .entry)) (now (addresses .entry)) s) g f) ⌝ }
 {
     let guest = g.0 as usize;
     if guest >= MAX_GUESTS {

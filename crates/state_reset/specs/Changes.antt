@@ -19,17 +19,17 @@ abbrev pub zeroedOf : ℕ → Guest → List ℕ → List ℕ → List ℕ
 zeroedOf n g owners l = tab (length l) (zeroOf n g owners l)
 
 -- guest g's endpoints, of those that are listed and have a place, detached
-unfoldable pub endpointsDetached : State → Guest → State
-endpointsDetached s g =
+unfoldable pub detachAll : State → Guest → State
+detachAll s g =
     withAttached (zeroedOf (min (s .listed) maxEndpoints) g (s .owners) (s .attached)) (zeroedOf (min (s .listed) maxEndpoints) g (s .owners) (s .domains)) s
 
 -- guest g's log empty, its lost count 0; nothing changes for a guest number that has no place
-unfoldable pub logCleared : State → Guest → State
-logCleared s g =
+unfoldable pub clearLog : State → Guest → State
+clearLog s g =
     cond (ltb (g .0) maxGuests)
     (withLogs (set (s .logged) (g .0) 0) (set (s .lost) (g .0) 0) (shiftedAll g maxFaults (s .reasons)) (shiftedAll g maxFaults (s .flags)) (shiftedAll g maxFaults (s .sources)) (shiftedAll g maxFaults (s .addresses)) s)
     s
 
 -- guest g's endpoints detached, its log empty, its lost count 0
 unfoldable pub guestCleared : State → Guest → State
-guestCleared s g = endpointsDetached (logCleared s g) g
+guestCleared s g = detachAll (clearLog s g) g

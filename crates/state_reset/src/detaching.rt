@@ -2,7 +2,7 @@
 ghost use mathlib.Core.Path.{_≡_};
 ghost use Rattle.rules.specs.declared.State.{State};
 ghost use Rattle.state_fields.specs.Fields.{withEndpoints};
-ghost use Rattle.state_reset.specs.Changes.{endpointsDetached};
+ghost use Rattle.state_reset.specs.Changes.{detachAll};
 use rules::Guest;
 use rules::sizes::MAX_ENDPOINTS;
 use state_fields::least;
@@ -15,7 +15,7 @@ pub fn detach_all<'a>(
     domains: &'a mut [u32; MAX_ENDPOINTS],
     g: Guest,
 )
-    ensures { λ _. ⌜ ((s : State) → withEndpoints listed (s .endpoints) (now (owners .entry)) (now (attached .exit)) (now (domains .exit)) (s .live) s ≡ endpointsDetached (withEndpoints listed (s .endpoints) (now (owners .entry)) (now (attached .entry)) (now (domains .entry)) (s .live) s) g) ⌝ }
+    ensures { λ _. ⌜ ((s : State) → withEndpoints listed (s .endpoints) (now (owners .entry)) (now (attached .exit)) (now (domains .exit)) (s .live) s ≡ detachAll (withEndpoints listed (s .endpoints) (now (owners .entry)) (now (attached .entry)) (now (domains .entry)) (s .live) s) g) ⌝ }
 {
     let n = least(listed, MAX_ENDPOINTS);
     for i in 0..n {

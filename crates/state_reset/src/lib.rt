@@ -4,7 +4,7 @@ mod detaching;
 ghost use mathlib.Core.Path.{_≡_};
 ghost use Rattle.rules.specs.declared.State.{State};
 ghost use Rattle.state_fields.specs.Fields.{withLogs};
-ghost use Rattle.state_reset.specs.Changes.{logCleared};
+ghost use Rattle.state_reset.specs.Changes.{clearLog};
 pub use detaching::detach_all;
 use rules::Guest;
 use rules::sizes::FAULT_PLACES;
@@ -21,7 +21,7 @@ pub fn clear_log<'a>(
     addresses: &'a mut [u64; FAULT_PLACES],
     g: Guest,
 )
-    ensures { λ _. ⌜ ((s : State) → withLogs (now (logged .exit)) (now (lost .exit)) (now (reasons .exit)) (now (flags .exit)) (now (sources .exit)) (now (addresses .exit)) s ≡ logCleared (withLogs (now (logged .entry)) (now (lost .entry)) (now (reasons .entry)) (now (flags .entry)) (now (sources .entry)) (now (addresses .entry)) s) g) ⌝ }
+    ensures { λ _. ⌜ ((s : State) → withLogs (now (logged .exit)) (now (lost .exit)) (now (reasons .exit)) (now (flags .exit)) (now (sources .exit)) (now (addresses .exit)) s ≡ clearLog (withLogs (now (logged .entry)) (now (lost .entry)) (now (reasons .entry)) (now (flags .entry)) (now (sources .entry)) (now (addresses .entry)) s) g) ⌝ }
 {
     let guest = g.0 as usize;
     state_log::drop_faults(logged, reasons, flags, sources, addresses, g, MAX_FAULTS);

@@ -1,13 +1,13 @@
 -- `call_map::map_status` meets its contract. Assumes nothing.
 use borrow.Author.Needs.{needs}
 use Rattle.state_fields.specs.Fields.{withSettings, withDomains}
-use Rattle.refinement.specs.Flat.{domainExists}
+use Rattle.refinement.specs.Flat as flat
 use Rattle.call_map.proofs.Steps.{map-steps}
 use Rattle.call_map.proofs.map_status.Statement.{statement}
 use Rattle.call_map.proofs.map_status.Tie as tie
 
 returns : tie.Need-returns
-unfolding domainExists
+unfolding flat.domainExists
 returns c s =
     let x = c .first-map in
     let m = c .before .wide in

@@ -1,12 +1,13 @@
 -- `call_unmap::unmap_status` meets its contract. Assumes nothing.
 use borrow.Author.Needs.{needs}
 use mathlib.Core.Path.{_∙_}
-use Rattle.refinement.specs.Flat.{domainExists, unmapStatus}
+use Rattle.refinement.specs.Flat.{unmapStatus}
+use Rattle.refinement.specs.Flat as flat
 use Rattle.call_unmap.proofs.unmap_status.Statement.{statement}
 use Rattle.call_unmap.proofs.unmap_status.Tie as tie
 
 returns : tie.Need-returns
-unfolding domainExists unmapStatus
+unfolding flat.domainExists unmapStatus
 returns c s =
     let o = c .before .straddled in
     let k = c .before .before .key-of in

@@ -4,16 +4,16 @@ use borrow.Author.Needs.{needs}
 use borrow.Author.Tests.{lt-ltb, le-ltb}
 use lib.ListN.{getD}
 use Rattle.rules.specs.Sizes.{maxGuests, maxFaults, maxLost}
-use Rattle.state_log.specs.Changes.{faultStored, faultLogged}
+use Rattle.state_log.specs.Changes.{faultStored, logFault}
 use Rattle.state_log.proofs.log_fault.Statement.{statement}
 use Rattle.state_log.proofs.log_fault.Tie as tie
 
 returns : tie.Need-returns
-unfolding faultLogged
+unfolding logFault
 returns c = λ s. rw (le-ltb (c .before .before .args .g .0) maxGuests (c .if1 .taken))
 
 returns-2 : tie.Need-returns-2
-unfolding faultLogged faultStored
+unfolding logFault faultStored
 returns-2 c =
     let e = c .before .before in
     let a = e .before .before .args in
@@ -21,7 +21,7 @@ returns-2 c =
     λ s. rw (lt-ltb (a .g .0) maxGuests (e .if1 .left), lt-ltb n maxFaults (c .if2 .taken), add-one n)
 
 returns-3 : tie.Need-returns-3
-unfolding faultLogged
+unfolding logFault
 returns-3 c =
     let e = c .before .before .before .before in
     let a = e .before .before .args in
@@ -29,7 +29,7 @@ returns-3 c =
     λ s. rw (lt-ltb (a .g .0) maxGuests (e .if1 .left), le-ltb (getD (a .logged .now) (a .g .0) 0) maxFaults (c .before .before .if2 .left), lt-ltb k maxLost (c .if3 .taken), add-one k)
 
 returns-4 : tie.Need-returns-4
-unfolding faultLogged
+unfolding logFault
 returns-4 c =
     let e = c .before .before .before .before in
     let a = e .before .before .args in

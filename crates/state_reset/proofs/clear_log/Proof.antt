@@ -8,13 +8,13 @@ use lib.Seq.{set-set}
 use Rattle.rules.specs.Sizes.{maxGuests, maxFaults}
 use Rattle.rules.specs.declared.State.{State}
 use Rattle.state_fields.specs.Fields.{withCounts, withLogs}
-use Rattle.state_log.specs.Dropped.{faultsDropped}
-use Rattle.state_reset.specs.Changes.{logCleared}
+use Rattle.state_log.specs.Dropped.{dropFaults}
+use Rattle.state_reset.specs.Changes.{clearLog}
 use Rattle.state_reset.proofs.clear_log.Statement.{statement}
 use Rattle.state_reset.proofs.clear_log.Tie as tie
 
 returns : tie.Need-returns
-unfolding logCleared faultsDropped
+unfolding clearLog dropFaults
 returns c =
     let d = c .before .drop-faults in
     let a = c .before .before .before .before .before .before .before .before .args in
@@ -24,7 +24,7 @@ returns c =
     ∙ rw (lt-ltb g maxGuests (c .if1 .taken), set-set (a .logged .now) g (getD (a .logged .now) g 0 - maxFaults) 0)
 
 returns-2 : tie.Need-returns-2
-unfolding logCleared faultsDropped
+unfolding clearLog dropFaults
 returns-2 c =
     let d = c .before .drop-faults in
     let a = c .before .before .before .before .before .before .before .before .args in

@@ -1,11 +1,11 @@
 -- `call_attach::moving::exists` meets its contract. Assumes nothing.
 use borrow.Author.Needs.{needs}
-use Rattle.refinement.specs.Flat.{domainExists}
+use Rattle.refinement.specs.Flat as flat
 use Rattle.call_attach.proofs.moving.exists.Statement.{statement}
 use Rattle.call_attach.proofs.moving.exists.Tie as tie
 
 returns : tie.Need-returns
-unfolding domainExists
+unfolding flat.domainExists
 returns c s = c .domain-exists .ensures
 
 pub exists-spec : {M : Type 1} → statement M

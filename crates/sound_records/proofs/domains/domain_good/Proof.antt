@@ -10,7 +10,7 @@ use mathlib.Core.Option.{none}
 use Rattle.laws.specs.Lists.{any?, pickBy, tab}
 use Rattle.laws.proofs.Tables.{length-tab, getD-tab}
 use Rattle.rules.specs.State.{Attachment, attachment}
-use Rattle.rules.specs.Handlers.{exists, isIn}
+use Rattle.rules.specs.Handlers.{domainExists, isIn}
 use Rattle.laws.proofs.Owned.{owned-on, owned-end}
 use Rattle.sound_records.proofs.Attached.{named, in-attachment}
 use Rattle.sound_records.proofs.domains.domain_good.Statement.{statement}
@@ -42,7 +42,7 @@ loop-again c =
     (omega arith, s .loop .inv .1 ∙ e ∙ rw (x, y, in-attachment d (getD (a .attached .now) j 0) (getD (a .domains .now) j 0)))
 
 returns : tie.Need-returns Inv-loop μ-loop
-unfolding exists
+unfolding domainExists
 returns c =
     let s = c .before in
     let a = s .before .args in

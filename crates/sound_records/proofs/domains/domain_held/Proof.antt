@@ -13,14 +13,14 @@ use Rattle.laws.proofs.Tests.{both-left, both-right}
 use Rattle.laws.proofs.Tables.{length-tab, getD-tab}
 use Rattle.rules.specs.Sizes.{maxEndpoints}
 use Rattle.rules.specs.State.{Attachment, attachment}
-use Rattle.rules.specs.Handlers.{exists, isIn}
+use Rattle.rules.specs.Handlers.{domainExists, isIn}
 use Rattle.laws.proofs.Owned.{owned-at}
 use Rattle.sound_records.proofs.Attached.{in-attachment}
 use Rattle.sound_records.proofs.domains.domain_held.Statement.{statement}
 use Rattle.sound_records.proofs.domains.domain_held.Tie as tie
 
 returns : tie.Need-returns
-unfolding exists
+unfolding domainExists
 returns c =
     let l = c .before .before .before .before .before .before .before .before in
     let a = l .before .before .args in

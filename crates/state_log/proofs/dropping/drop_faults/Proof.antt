@@ -6,7 +6,7 @@ use borrow.Author.Tests.{lt-ltb}
 use lib.ListN.{getD}
 use Rattle.rules.specs.Sizes.{maxGuests}
 use Rattle.state_fields.proofs.Offsets.{times-eight, guest-below}
-use Rattle.state_log.specs.Dropped.{faultsDropped}
+use Rattle.state_log.specs.Dropped.{dropFaults}
 use Rattle.state_log.proofs.Oldest.{none-dropped, some-guest, minus-least}
 use Rattle.state_log.proofs.dropping.drop_faults.Statement.{statement}
 use Rattle.state_log.proofs.dropping.drop_faults.Tie as tie
@@ -19,7 +19,7 @@ there : (c : tie.Else1) → c .before .before .args .g .0 < maxGuests
 there c = some-guest _ _ (c .if1 .left)
 
 returns-2 : tie.Need-returns-2
-unfolding faultsDropped
+unfolding dropFaults
 returns-2 c =
     let x = c .shift-faults .ensures in
     let m = c .before .before .before .before .before in

@@ -4,7 +4,7 @@ use borrow.Author.Needs.{needs}
 use Prim.Native.Nat.{_-_, _≤_}
 use mathlib.Core.Logic.{⊎-elim}
 use Rattle.rules.specs.Sizes.{maxEndpoints}
-use Rattle.state_reset.specs.Changes.{endpointsDetached}
+use Rattle.state_reset.specs.Changes.{detachAll}
 use Rattle.state_reset.proofs.Zeroing.{Zeroed, zero-first, zero-in, zero-out, zero-last}
 use Rattle.state_reset.proofs.detaching.detach_all.Statement.{statement}
 use Rattle.state_reset.proofs.detaching.detach_all.Tie as tie
@@ -41,7 +41,7 @@ loop-again c =
     )
 
 returns : tie.Need-returns Inv-loop μ-loop
-unfolding endpointsDetached
+unfolding detachAll
 returns c =
     let l = c .before in
     let n = l .before .least in
