@@ -1,13 +1,10 @@
 -- A reset, in the parts that it is worked in, is on sound state and table the device's step.
-use Prim.Native.Nat.{ℕ, min}
+use Prim.Native.Nat.{min}
 use mathlib.Core.Path.{_≡_, refl, sym, ap, _∙_}
 use mathlib.Core.Bool.{Bool, true, false}
-use mathlib.Core.List.{List, []}
 use native.Mathlib.Nat.{min-eq-left}
 use lib.Dec.{ltb}
 use Rattle.rules.specs.declared.Guest.{Guest}
-use Rattle.rules.specs.declared.State.{State}
-use Rattle.rules.specs.declared.Answer.{Answer}
 use Rattle.rules.specs.State.{Device, Lengths, configOf}
 use Rattle.rules.specs.Sound.{sound}
 use Rattle.rules.specs.Sizes.{maxGuests}
@@ -15,7 +12,7 @@ use Rattle.rules.specs.Device.{reset, of-guest, step}
 use Rattle.rules.proofs.Reading.{sound-good}
 use Rattle.rules.proofs.Refusals.{no-such-guest}
 use Rattle.state_reset.specs.Changes.{guestCleared}
-use Rattle.refinement.specs.Flat.{device, resetGuest}
+use Rattle.refinement.specs.Flat.{resetGuest}
 use Rattle.refinement.specs.Resetting.{isGuest, resetAnswer, logsReset, domainsReset, resetWhole}
 use Rattle.refinement.proofs.Stepped.{reset-step}
 
@@ -30,9 +27,3 @@ reset-is-step d h k g = go (ltb (g .0) (d .state .settings .guests)) refl
     go : (b : Bool) → ltb (g .0) (d .state .settings .guests) ≡ b → resetWhole (d .state .settings .guests) d g ≡ step d (of-guest g reset)
     go true t = rw (all-have ∙ t) (unfold resetGuest guestCleared in sym (reset-step d h k g t))
     go false t = rw (all-have ∙ t) (sym (no-such-guest d (of-guest g reset) (unfold configOf in t)))
-
--- the same of a reset whose three parts are told
-pub reset-works : (s : State) (ws : List ℕ) (g : Guest) → sound (device s ws) ≡ true → Lengths s → (x : Answer) (t r : State) (vs : List ℕ)
-    → x ≡ resetAnswer (s .settings .guests) g → t ≡ logsReset (s .settings .guests) s g → device r vs ≡ domainsReset (s .settings .guests) (device t ws) g
-    → (record { answer = x; buffer = [] }, device r vs) ≡ step (device s ws) (of-guest g reset)
-reset-works s ws g h k x t r vs p q e = rw (e, q, p) (reset-is-step (device s ws) h k g)

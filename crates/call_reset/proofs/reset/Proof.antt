@@ -1,15 +1,31 @@
 -- `call_reset::reset` meets its contract. Assumes nothing.
+use Prim.Native.Nat.{ℕ}
+use mathlib.Core.Path.{_≡_}
+use mathlib.Core.Bool.{true}
+use mathlib.Core.List.{List, []}
 use borrow.Author.Needs.{needs}
+use Rattle.rules.specs.declared.Guest.{Guest}
+use Rattle.rules.specs.declared.State.{State}
+use Rattle.rules.specs.declared.Answer.{Answer}
+use Rattle.rules.specs.State.{Lengths}
+use Rattle.rules.specs.Sound.{sound}
 use Rattle.rules.specs.Device as rules
 use Rattle.state_fields.specs.Fields.{withLogs}
 use Rattle.sound.proofs.Checks.{job-refused, job-passes}
 use Rattle.refinement.specs.Flat.{device}
-use Rattle.refinement.proofs.Resetting.{reset-works}
+use Rattle.refinement.specs.Resetting.{resetAnswer, logsReset, domainsReset}
+use Rattle.refinement.proofs.Resetting.{reset-is-step}
 use Rattle.call_reset.proofs.reset.Statement.{statement}
 use Rattle.call_reset.proofs.reset.Tie as tie
 
 abbrev start : tie.After-check-job → tie.Start
 start c = c .before .before .before .before .before .before .before .before .before .before .before .before .before .before .before
+
+-- the answer, the logs, and the rest of the device that a reset leaves are together the device's step
+reset-works : (s : State) (ws : List ℕ) (g : Guest) → sound (device s ws) ≡ true → Lengths s → (x : Answer) (t r : State) (vs : List ℕ)
+    → x ≡ resetAnswer (s .settings .guests) g → t ≡ logsReset (s .settings .guests) s g → device r vs ≡ domainsReset (s .settings .guests) (device t ws) g
+    → (record { answer = x; buffer = [] }, device r vs) ≡ rules.step (device s ws) (rules.of-guest g rules.reset)
+reset-works s ws g h k x t r vs p q e = rw (e, q, p) (reset-is-step (device s ws) h k g)
 
 returns : tie.Need-returns
 returns c =
