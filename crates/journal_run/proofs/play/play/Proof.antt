@@ -23,10 +23,10 @@ use Rattle.journal_run.proofs.play.play.Statement.{statement}
 use Rattle.journal_run.proofs.play.play.Tie as tie
 
 abbrev Inv-loop : tie.InvT-loop
-Inv-loop t₀ s out₀ player₀ read₀ printed₀ t out session read printed = Went player₀ t₀ s out₀ session t out read printed × (length t ≡ length t₀)
+Inv-loop t₀ s out₀ session₀ read₀ printed₀ t out session read printed = Went session₀ t₀ s out₀ session t out read printed × (length t ≡ length t₀)
 
 abbrev μ-loop : tie.MeasureT-loop
-μ-loop t₀ s out₀ player₀ read₀ printed₀ t out session read printed = length s - read
+μ-loop t₀ s out₀ session₀ read₀ printed₀ t out session read printed = length s - read
 
 loop-holds : tie.Need-loop-holds Inv-loop μ-loop
 loop-holds c = let a = c .before .before .before .args in (begins (a .p) (a .t .now) (a .s .now) (a .out .now), refl)
