@@ -1,7 +1,7 @@
 -- The tests of a good configuration and of soundness, group by group, as named facts, and back.
 use Prim.Native.Nat.{ℕ, _*_, _^_, _≤_, _<_}
 use mathlib.Core.Path.{_≡_}
-use mathlib.Core.Bool.{true, not, _||_}
+use mathlib.Core.Bool.{true, not, _&&_, _||_}
 use mathlib.Core.List.{[], _∷_}
 use native.Mathlib.Omega.{arith}
 use lib.Dec.{leb, ltb, eqb}
@@ -11,8 +11,8 @@ use Rattle.laws.specs.Lists.{all?, every?, pairwise, below, sumBelow}
 use Rattle.laws.proofs.Tests.{both, both-left, both-right, opened, closed}
 use Rattle.laws.proofs.Tables.{below-at, below-all}
 use Rattle.rules.specs.declared.State.{State}
-use Rattle.rules.specs.Sizes.{maxGuests, maxEndpoints, maxRecords, recordWords, tableWords, maxFaults, maxLost, faultPlaces, domainSpan}
-use Rattle.rules.specs.Configuration.{Config, share, windowFirst, windowLast, shareAddress, settingsTests, listTests, goodSettings, goodLists, good}
+use Rattle.rules.specs.Sizes.{maxGuests, maxEndpoints, endpointRegionWords, maxRecords, recordWords, tableWords, maxFaults, maxLost, faultPlaces, domainSpan}
+use Rattle.rules.specs.Configuration.{Config, share, windowFirst, windowLast, shareAddress, settingsTests, listTests, regionsAt, endpointRegions, usedWords, regionTests, goodSettings, goodLists, goodRegions, good}
 use Rattle.rules.specs.Table.{guestOf, before, apart}
 use Rattle.rules.specs.State.{Log, Device, configOf, domainAt, read, faultAt}
 use Rattle.rules.specs.Guests.{Own, Part, recordsOf}
@@ -35,13 +35,17 @@ pub record Good (c : Config) : Type 0 where
   pub few : length (c .endpoints) ≤ maxEndpoints
   pub owners : all? (λ o. ltb o (c .settings .guests)) (c .owners) ≡ true
   pub distinct : pairwise (λ a b. not (eqb a b)) (c .endpoints) ≡ true
+  pub region-words : length (c .regions) ≡ endpointRegionWords * length (c .endpoints)
+  pub regions : (i : ℕ) → i < length (c .endpoints) → every? (regionTests (regionsAt (c .regions) i)) ≡ true
 
 pub good-facts : (c : Config) → good c ≡ true → Good c
-unfolding good goodSettings goodLists
+unfolding good goodSettings goodLists goodRegions
 good-facts c h =
     let n = c .settings .guests in
-    let s = opened (settingsTests (c .settings)) (both-left (goodSettings (c .settings)) (goodLists (c .settings) (c .endpoints) (c .owners)) h) in
-    let l = opened (listTests (c .settings) (c .endpoints) (c .owners)) (both-right (goodSettings (c .settings)) (goodLists (c .settings) (c .endpoints) (c .owners)) h) in
+    let lists = both-right (goodSettings (c .settings)) (goodLists (c .settings) (c .endpoints) (c .owners) && goodRegions (length (c .endpoints)) (c .regions)) h in
+    let r = both-right (goodLists (c .settings) (c .endpoints) (c .owners)) (goodRegions (length (c .endpoints)) (c .regions)) lists in
+    let s = opened (settingsTests (c .settings)) (both-left (goodSettings (c .settings)) _ h) in
+    let l = opened (listTests (c .settings) (c .endpoints) (c .owners)) (both-left (goodLists (c .settings) (c .endpoints) (c .owners)) _ lists) in
     let m : c .settings .mask ≡ 0 → ⊥ = eqb-false (c .settings .mask) 0 (not-true _ (s .1 .1 .1 .1 .1 .0)) in
     record {
       guests = (leb-true _ _ (s .0), leb-true _ _ (s .1 .0));
@@ -57,13 +61,15 @@ good-facts c h =
       few = leb-true _ _ (l .1 .0);
       owners = l .1 .1 .0;
       distinct = l .1 .1 .1 .0;
+      region-words = eqb-true _ _ (both-left (eqb (length (c .regions)) (endpointRegionWords * length (c .endpoints))) _ r);
+      regions = λ i k. below-at (length (c .endpoints)) (λ i. every? (regionTests (regionsAt (c .regions) i))) i (both-right (eqb (length (c .regions)) (endpointRegionWords * length (c .endpoints))) _ r) k;
     }
 
 pub good-tests : (c : Config) → Good c → good c ≡ true
-unfolding good goodSettings goodLists
+unfolding good goodSettings goodLists goodRegions
 good-tests c h =
     let s = c .settings in
-    both (goodSettings s) (goodLists s (c .endpoints) (c .owners))
+    both (goodSettings s) (goodLists s (c .endpoints) (c .owners) && goodRegions (length (c .endpoints)) (c .regions))
     (closed (settingsTests s) (
       le-leb _ _ (h .guests .0),
       (
@@ -83,7 +89,11 @@ good-tests c h =
         ),
       ),
     ))
+    (both (goodLists s (c .endpoints) (c .owners)) (goodRegions (length (c .endpoints)) (c .regions))
     (closed (listTests s (c .endpoints) (c .owners)) (eq-eqb _ _ (h .sizes), (le-leb _ _ (h .few), (h .owners, (h .distinct, tt)))))
+    (both (eqb (length (c .regions)) (endpointRegionWords * length (c .endpoints))) (below (length (c .endpoints)) (λ i. every? (regionTests (regionsAt (c .regions) i))))
+    (eq-eqb _ _ (h .region-words))
+    (below-all (length (c .endpoints)) _ (h .regions))))
 
 -- THE FRAME
 
@@ -114,16 +124,18 @@ pub record Unused (s : State) : Type 0 where
   pub owners : zeroFrom (s .listed) (s .owners) ≡ true
   pub attached : zeroFrom (s .listed) (s .attached) ≡ true
   pub domains : zeroFrom (s .listed) (s .domains) ≡ true
+  pub regions-past : zeroFrom (endpointRegionWords * s .listed) (s .regions) ≡ true
+  pub regions : (i : ℕ) → i < s .listed → zeroFrom (usedWords (s .regions) i) (endpointRegions (s .regions) i) ≡ true
 
 pub unused-facts : (s : State) → every? (unusedTests s) ≡ true → Unused s
 unused-facts s h =
     let t = opened (unusedTests s) h in
     let e = t .1 .1 .1 .1 .1 in
-    record { shares = t .0; firsts = t .1 .0; lasts = t .1 .1 .0; logged = t .1 .1 .1 .0; lost = t .1 .1 .1 .1 .0; endpoints = e .0; owners = e .1 .0; attached = e .1 .1 .0; domains = e .1 .1 .1 .0 }
+    record { shares = t .0; firsts = t .1 .0; lasts = t .1 .1 .0; logged = t .1 .1 .1 .0; lost = t .1 .1 .1 .1 .0; endpoints = e .0; owners = e .1 .0; attached = e .1 .1 .0; domains = e .1 .1 .1 .0; regions-past = e .1 .1 .1 .1 .0; regions = λ i l. below-at (s .listed) _ i (e .1 .1 .1 .1 .1 .0) l }
 
 pub unused-tests : (s : State) → Unused s → every? (unusedTests s) ≡ true
 unused-tests s h =
-    closed (unusedTests s) (h .shares, (h .firsts, (h .lasts, (h .logged, (h .lost, (h .endpoints, (h .owners, (h .attached, (h .domains, tt)))))))))
+    closed (unusedTests s) (h .shares, (h .firsts, (h .lasts, (h .logged, (h .lost, (h .endpoints, (h .owners, (h .attached, (h .domains, (h .regions-past, (below-all (s .listed) _ (h .regions), tt)))))))))))
 
 pub record Placed (s : State) : Type 0 where
   pub attachments : (i : ℕ) → i < s .listed → attachmentGood (configOf s) (getD (s .attached) i 0) (domainAt s i) ≡ true

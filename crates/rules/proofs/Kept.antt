@@ -1,20 +1,21 @@
 -- The configuration as a state holds it says the same as the one that set-up was given.
-use Prim.Native.Nat.{ℕ, _≤_, _<_}
+use Prim.Native.Nat.{ℕ, _*_, _≤_, _<_}
 use mathlib.Core.Path.{_≡_, refl, _∙_}
 use mathlib.Core.Bool.{Bool, true, false, cond}
 use native.Mathlib.Omega.{arith}
 use lib.Dec.{ltb}
-use lib.ListN.{getD}
+use lib.ListN.{length, getD, take}
 use borrow.Author.Tests.{lt-ltb}
 use Rattle.laws.specs.Lists.{sumBelow, tab}
 use Rattle.laws.proofs.Tables.{getD-tab, tab-same, sum-same}
 use Rattle.rules.specs.declared.Guest.{Guest}
 use Rattle.rules.specs.declared.Settings.{Settings}
-use Rattle.rules.specs.Sizes.{maxGuests}
-use Rattle.rules.specs.Configuration.{Config, share, windowFirst, windowLast, good}
-use Rattle.rules.specs.State.{World, trimmed, stateOf, write, start}
+use Rattle.rules.specs.Sizes.{maxGuests, maxRegions, endpointRegionWords}
+use Rattle.rules.specs.Configuration.{Config, share, windowFirst, windowLast, regionCount, regionsAt, good}
+use Rattle.rules.specs.State.{World, trimmed, trimmedRegions, stateOf, write, start}
 use Rattle.rules.specs.Guests.{own}
 use Rattle.rules.proofs.Groups.{good-facts, good-tests}
+use Rattle.rules.proofs.Regions.{region-count, length-held, regions-held, trimmed-again}
 use Rattle.rules.proofs.Writing.{kept}
 
 module _ (s : Settings) (few : s .guests ≤ maxGuests) where
@@ -47,12 +48,18 @@ module _ (c : Config) (h : good c ≡ true) where
   few-guests : c .settings .guests ≤ maxGuests
   few-guests = good-facts c h .guests .1
 
+  few-regions : (i : ℕ) → i < length (c .endpoints) → regionCount (c .regions) i ≤ maxRegions
+  few-regions i l = region-count (c .regions) i (good-facts c h .regions i l)
+
+  regions-kept : (i : ℕ) → i < length (c .endpoints) → regionsAt (take (endpointRegionWords * length (c .endpoints)) (trimmedRegions (length (c .endpoints)) (c .regions))) i ≡ regionsAt (c .regions) i
+  regions-kept i l = regions-held (length (c .endpoints)) (good-facts c h .few) (c .regions) i l (few-regions i l)
+
   pub good-kept : good (kept c) ≡ true
   good-kept =
       let i = good-facts c h in
       let s = c .settings in
       unfold kept in
-      good-tests (record { settings = trimmed s; endpoints = c .endpoints; owners = c .owners })
+      good-tests (record { settings = trimmed s; endpoints = c .endpoints; owners = c .owners; regions = take (endpointRegionWords * length (c .endpoints)) (trimmedRegions (length (c .endpoints)) (c .regions)) })
       (record {
         guests = unfold trimmed in i .guests;
         windows = λ g l. let m : g < s .guests = (unfold trimmed in l) in rw (kept-first s few-guests g m, kept-last s few-guests g m) (i .windows g m);
@@ -68,6 +75,8 @@ module _ (c : Config) (h : good c ≡ true) where
         few = i .few;
         owners = unfold trimmed in i .owners;
         distinct = i .distinct;
+        region-words = length-held (length (c .endpoints)) (i .few) (c .regions);
+        regions = λ j l. rw (regions-kept j l) (i .regions j l);
       })
     where
       sums : sumBelow (trimmed (c .settings) .guests) (share (trimmed (c .settings))) ≡ sumBelow (c .settings .guests) (share (c .settings))
@@ -76,14 +85,17 @@ module _ (c : Config) (h : good c ≡ true) where
   pub own-kept : (g : Guest) → g .0 < c .settings .guests → own (kept c) g ≡ own c g
   own-kept g l =
       unfold own kept in
-      rw (kept-share (c .settings) few-guests (g .0) l, kept-first (c .settings) few-guests (g .0) l, kept-last (c .settings) few-guests (g .0) l)
+      rw (kept-share (c .settings) few-guests (g .0) l, kept-first (c .settings) few-guests (g .0) l, kept-last (c .settings) few-guests (g .0) l, tab-same (length (c .endpoints)) (regionsAt (take (endpointRegionWords * length (c .endpoints)) (trimmedRegions (length (c .endpoints)) (c .regions)))) (regionsAt (c .regions)) regions-kept)
       (unfold trimmed in refl)
 
+  regions-again : trimmedRegions (length (c .endpoints)) (take (endpointRegionWords * length (c .endpoints)) (trimmedRegions (length (c .endpoints)) (c .regions))) ≡ trimmedRegions (length (c .endpoints)) (c .regions)
+  regions-again = trimmed-again (length (c .endpoints)) (good-facts c h .few) (c .regions)
+
   pub kept-twice : kept (kept c) ≡ kept c
-  kept-twice = unfold kept in rw (trimmed-twice (c .settings) few-guests)
+  kept-twice = unfold kept in rw (trimmed-twice (c .settings) few-guests, regions-again)
 
   pub state-kept : (w : World) → stateOf (kept c) w ≡ stateOf c w
-  state-kept w = unfold stateOf kept in rw (trimmed-twice (c .settings) few-guests)
+  state-kept w = unfold stateOf kept in rw (trimmed-twice (c .settings) few-guests, regions-again)
 
   pub write-kept : (w : World) → write (kept c) w ≡ write c w
   write-kept w = unfold write in rw (state-kept w)

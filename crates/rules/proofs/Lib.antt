@@ -6,6 +6,7 @@ pub mod Parts
 pub mod Worlds
 pub mod Words
 pub mod Zeros
+pub mod Regions
 pub mod Shares
 pub mod Writing
 pub mod Kept

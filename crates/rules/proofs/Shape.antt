@@ -15,13 +15,14 @@ use Rattle.laws.proofs.Tests.{both-left, both-right, or-cases}
 use Rattle.laws.proofs.Tables.{length-tab, getD-tab, tab-is, replicate-is}
 use Rattle.rules.specs.declared.State.{State}
 use Rattle.rules.specs.declared.Fault.{Fault}
-use Rattle.rules.specs.Sizes.{maxGuests, maxEndpoints, recordWords, tableWords, maxFaults, faultPlaces}
+use Rattle.rules.specs.Sizes.{maxGuests, maxEndpoints, endpointRegionWords, recordWords, tableWords, maxFaults, faultPlaces}
 use Rattle.rules.specs.Table.{records, words, tableOf}
-use Rattle.rules.specs.State.{Lengths, Log, Device, noFault, noLog, configOf, attachment, attachmentAt, domainAt, faultAt, logAt, read, trimmed, flagOf, numberOf, stateOf}
+use Rattle.rules.specs.State.{Lengths, Log, Device, noFault, noLog, configOf, attachment, attachmentAt, domainAt, faultAt, logAt, read, trimmed, trimmedRegions, flagOf, numberOf, stateOf}
 use Rattle.rules.specs.Handlers.{outside}
 use Rattle.rules.specs.Sound.{attachmentGood, zeroFrom, faultZero, faultPlaceGood, sound}
 use Rattle.rules.proofs.Words.{length-records, words-split}
 use Rattle.rules.proofs.Zeros.{zero-at}
+use Rattle.rules.proofs.Regions.{trimmed-back}
 use Rattle.rules.proofs.Groups.{Unused, Sound, sound-facts}
 use Rattle.rules.proofs.Reading.{sound-good, sound-listed}
 
@@ -133,17 +134,24 @@ module _ (d : Device) (h : sound d ≡ true) (k : Lengths (d .state)) where
   live-back : length (take (s .live) (records (d .table))) ≡ s .live
   live-back = length-take-le (s .live) (records (d .table)) (rw (length-records (d .table), facts .frame .words) (facts .frame .live))
 
+  pub listed-back : length (take (s .listed) (s .endpoints)) ≡ s .listed
+  listed-back = unfold configOf in sound-listed d h
+
+  pub regions-back : trimmedRegions (s .listed) (take (endpointRegionWords * s .listed) (s .regions)) ≡ s .regions
+  regions-back = trimmed-back (s .listed) (s .regions) (k .regions) (unused .regions-past) (unused .regions)
+
   -- the state and the table written back are those that were read
   pub state-back : stateOf (configOf (d .state)) (read d) ≡ d .state
   state-back =
       unfold stateOf configOf read in
       rw (
         settings-back,
-        sound-listed-here,
+        listed-back,
         padded maxEndpoints (s .listed) (s .endpoints) (k .endpoints) (unused .endpoints),
         padded maxEndpoints (s .listed) (s .owners) (k .owners) (unused .owners),
         attached-back,
         domains-back,
+        regions-back,
         live-back,
         logged-back,
         lost-back,
@@ -152,9 +160,6 @@ module _ (d : Device) (h : sound d ≡ true) (k : Lengths (d .state)) where
         faults-back (λ f. f .endpoint .0) (s .sources) (k .sources) (λ i. refl),
         faults-back (λ f. f .address) (s .addresses) (k .addresses) (λ i. refl),
       )
-    where
-      sound-listed-here : length (take (s .listed) (s .endpoints)) ≡ s .listed
-      sound-listed-here = unfold configOf in sound-listed d h
 
   zeros-after : drop (recordWords * s .live) (d .table) ≡ replicate (tableWords - recordWords * s .live) 0
   zeros-after =

@@ -20,6 +20,7 @@ use Rattle.rules.proofs.Groups.{Good, good-facts, Framed, Unused, Commo
 use Rattle.rules.proofs.Worlds.{Whole}
 use Rattle.rules.proofs.Words.{length-tableOf, zero-tableOf}
 use Rattle.rules.proofs.Zeros.{zero-from}
+use Rattle.rules.proofs.Regions.{trimmed-past, trimmed-rest}
 use Rattle.rules.proofs.Shares.{fits}
 use Rattle.rules.proofs.Writing.{kept, config-back, fault-back, read-write}
 use Rattle.rules.proofs.Kept.{good-kept, own-kept, kept-twice, write-kept}
@@ -64,6 +65,8 @@ module _ (c : Config) (w : World) (h : Whole c w) where
         owners = zero-tab (length (c .endpoints)) maxEndpoints (λ i. getD (c .owners) i 0) (λ i k m. List·getD-eq-default (c .owners) 0 (rw (sym (good-c .sizes)) k));
         attached = zero-tab (length (c .endpoints)) maxEndpoints (λ i. flagOf (getD (w .attachments) i none)) (λ i k m. ap flagOf (List·getD-eq-default (w .attachments) none (past i k)));
         domains = zero-tab (length (c .endpoints)) maxEndpoints (λ i. numberOf (getD (w .attachments) i none)) (λ i k m. ap numberOf (List·getD-eq-default (w .attachments) none (past i k)));
+        regions-past = trimmed-past (length (c .endpoints)) (good-c .few) (c .regions);
+        regions = trimmed-rest (length (c .endpoints)) (good-c .few) (c .regions);
       }
     where
       past : (i : ℕ) → length (c .endpoints) ≤ i → length (w .attachments) ≤ i

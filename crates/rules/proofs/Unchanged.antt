@@ -14,7 +14,7 @@ use Rattle.rules.proofs.PutBack.{with-same}
 use Rattle.rules.proofs.Worlds.{Whole}
 use Rattle.rules.proofs.Writing.{kept}
 use Rattle.rules.proofs.Reading.{sound-whole}
-use Rattle.rules.proofs.Shape.{settings-back, state-back, table-back}
+use Rattle.rules.proofs.Shape.{settings-back, listed-back, regions-back, state-back, table-back}
 
 module _ (c : Config) (w : World) (h : Whole c w) (g : Guest) where
   pub attachments-same : weaveBy (g .0) (c .owners) (w .attachments) (part c g w .attachments) ≡ w .attachments
@@ -32,7 +32,7 @@ module _ (c : Config) (w : World) (h : Whole c w) (g : Guest) where
 
 module _ (d : Device) (h : sound d ≡ true) (k : Lengths (d .state)) where
   pub kept-is : kept (configOf (d .state)) ≡ configOf (d .state)
-  kept-is = unfold kept configOf in rw (settings-back d h k)
+  kept-is = unfold kept configOf in rw (settings-back d h k, listed-back d h k, regions-back d h k)
 
   -- the device is what its world writes
   pub written : d ≡ write (configOf (d .state)) (read d)

@@ -8,10 +8,10 @@ use lib.ListN.{length, getD, take}
 use lib.Seq.{ext-getD, getD-take, length-take-le}
 use Rattle.laws.specs.Lists.{tab, pad}
 use Rattle.laws.proofs.Tables.{length-tab, getD-tab, tab-is}
-use Rattle.rules.specs.Sizes.{maxGuests, maxEndpoints, maxFaults, maxLost, faultPlaces}
+use Rattle.rules.specs.Sizes.{maxGuests, maxEndpoints, endpointRegionWords, maxFaults, maxLost, faultPlaces}
 use Rattle.rules.specs.Configuration.{Config}
 use Rattle.rules.specs.Table.{records}
-use Rattle.rules.specs.State.{Attachment, World, noFault, noLog, configOf, attachment, faultAt, logAt, read, trimmed, flagOf, numberOf, logOf, faultPlaced, stateOf, write}
+use Rattle.rules.specs.State.{Attachment, World, noFault, noLog, configOf, attachment, faultAt, logAt, read, trimmed, trimmedRegions, flagOf, numberOf, logOf, faultPlaced, stateOf, write}
 use Rattle.rules.specs.Guests.{part}
 use Rattle.rules.specs.Sound.{guest}
 use Rattle.rules.proofs.Groups.{Good, good-facts}
@@ -20,7 +20,13 @@ use Rattle.rules.proofs.Words.{records-tableOf}
 
 -- the configuration as a state holds it
 unfoldable pub kept : Config → Config
-kept c = record { settings = trimmed (c .settings); endpoints = c .endpoints; owners = c .owners }
+kept c =
+    record {
+      settings = trimmed (c .settings);
+      endpoints = c .endpoints;
+      owners = c .owners;
+      regions = take (endpointRegionWords * length (c .endpoints)) (trimmedRegions (length (c .endpoints)) (c .regions));
+    }
 
 take-pad : {A : Type 0} (n m : ℕ) (z : A) (l : List A) → length l ≡ m → m ≤ n → take m (pad n z l) ≡ l
 take-pad n m z l e h =

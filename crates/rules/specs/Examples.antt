@@ -9,11 +9,11 @@ use Rattle.laws.specs.Lists.{below, sumBelow, tabFrom}
 use Rattle.laws.specs.Bytes.{leBytes}
 use Rattle.laws.specs.Runs.{after, given, every}
 use Rattle.rules.specs.declared.Mapping.{Mapping}
-use Rattle.rules.specs.Sizes.{tableWords}
+use Rattle.rules.specs.Sizes.{endpointRegionWords, tableWords}
 use Rattle.rules.specs.Answers.{number}
-use Rattle.rules.specs.Configuration.{Config, goodSettings, goodLists, good}
+use Rattle.rules.specs.Configuration.{Config, regionsAt, regionUsed, goodSettings, goodLists, goodRegions, good}
 use Rattle.rules.specs.Table.{tableOf, before, overlap}
-use Rattle.rules.specs.State.{Device, configOf, read, write, stateOf, trimmed, start, zeroState}
+use Rattle.rules.specs.State.{Device, configOf, read, write, stateOf, trimmed, trimmedRegions, start, zeroState}
 use Rattle.rules.specs.Guests.{own, part, replace, withRecordsOf}
 use Rattle.rules.specs.Requests.{OK, RANGE, NOMEM, ATTACH, MAP, UNMAP}
 use Rattle.rules.specs.Handlers.{settle, outside, isIn, domainExists, listed, ofKey, without, leave, enter, moveFrom, attached, handleAttach, handleDetach, granularity, formSteps, handleMap, inside, straddles, handleUnmap, handle}
@@ -37,6 +37,7 @@ config =
           };
       endpoints = 8 ∷ [];
       owners = 0 ∷ [];
+      regions = replicate endpointRegionWords 0;
     }
 
 -- a request of guest 0, with a writable part of four bytes that are not zero
@@ -107,5 +108,5 @@ wanted e = (L.map worked-request (e .statuses), e .held)
 
 -- P1 to P10
 pub worked-examples : L.map shown examples ≡ L.map wanted examples
-unfolding shown wanted examples config asks attaches maps unmaps ready told worked-request addressesOf below sumBelow tabFrom trailingZeros goodSettings goodLists good tableOf before overlap configOf read write stateOf trimmed start zeroState own part replace withRecordsOf settle outside isIn domainExists listed ofKey without leave enter moveFrom attached handleAttach handleDetach granularity formSteps handleMap inside straddles handleUnmap handle afterReset recordGood attachmentGood faultGood zeroFrom faultPlaceGood sound requested jobRule rule caller work performed step setUp
+unfolding shown wanted examples config asks attaches maps unmaps ready told worked-request addressesOf below sumBelow tabFrom trailingZeros goodSettings goodLists regionsAt regionUsed goodRegions good tableOf before overlap configOf read write stateOf trimmed trimmedRegions start zeroState own part replace withRecordsOf settle outside isIn domainExists listed ofKey without leave enter moveFrom attached handleAttach handleDetach granularity formSteps handleMap inside straddles handleUnmap handle afterReset recordGood attachmentGood faultGood zeroFrom faultPlaceGood sound requested jobRule rule caller work performed step setUp
 worked-examples = refl

@@ -2,17 +2,18 @@
 use Prim.Native.Nat.{ℕ}
 use mathlib.Core.List.{List, _++_}
 use lib.Dec.{ltb, eqb}
-use lib.ListN.{set}
-use Rattle.laws.specs.Lists.{keep, pickBy, weaveBy}
+use lib.ListN.{length, set}
+use Rattle.laws.specs.Lists.{keep, pickBy, weaveBy, tab}
 use Rattle.rules.specs.declared.Guest.{Guest}
 use Rattle.rules.specs.declared.InputRange.{InputRange}
 use Rattle.rules.specs.declared.DomainRange.{DomainRange}
 use Rattle.rules.specs.declared.Mapping.{Mapping}
-use Rattle.rules.specs.Configuration.{Config, share, windowFirst, windowLast}
+use Rattle.rules.specs.declared.Region.{Region}
+use Rattle.rules.specs.Configuration.{Config, share, windowFirst, windowLast, regionsAt}
 use Rattle.rules.specs.Table.{guestOf}
 use Rattle.rules.specs.State.{Attachment, Log, World, logOf}
 
--- what set-up fixes and a guest's rules read: its number, share, window and endpoints, and what holds for all guests
+-- what set-up fixes and a guest's rules read: its number, share, window and endpoints with their regions, and what holds for all guests
 pub record Own : Type 0 where
   pub guest : Guest
   pub share : ℕ
@@ -22,6 +23,7 @@ pub record Own : Type 0 where
   pub input : InputRange
   pub domains : DomainRange
   pub endpoints : List ℕ
+  pub regions : List (List Region)
 
 -- what a guest's rules change: its attachments, its records in table order, its log and its lost count
 pub record Part : Type 0 where
@@ -40,6 +42,7 @@ own c g =
       input = c .settings .input;
       domains = c .settings .domains;
       endpoints = pickBy (g .0) (c .owners) (c .endpoints);
+      regions = pickBy (g .0) (c .owners) (tab (length (c .endpoints)) (regionsAt (c .regions)));
     }
 
 -- the records of guest g, in table order

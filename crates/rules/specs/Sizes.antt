@@ -1,5 +1,5 @@
 -- The sizes of document 01, each named once for the definitions, as src/sizes.rt names them for the code.
-use Prim.Native.Nat.{ℕ, _-_, _*_, _^_}
+use Prim.Native.Nat.{ℕ, suc, _-_, _*_, _^_}
 
 -- "one to four guests"
 abbrev pub maxGuests : ℕ
@@ -8,6 +8,22 @@ maxGuests = 4
 -- "at most 32 entries"
 abbrev pub maxEndpoints : ℕ
 maxEndpoints = 32
+
+-- "up to four reserved regions"
+abbrev pub maxRegions : ℕ
+maxRegions = 4
+
+-- the words of a region: "subtype [..], start, end"
+abbrev pub regionWords : ℕ
+regionWords = 3
+
+-- the words for an endpoint's regions: their number, then those of each region
+abbrev pub endpointRegionWords : ℕ
+endpointRegionWords = suc (regionWords * maxRegions)
+
+-- the words for the regions of all endpoints
+abbrev pub regionPlaces : ℕ
+regionPlaces = endpointRegionWords * maxEndpoints
 
 -- "256 records of five words"
 abbrev pub maxRecords : ℕ

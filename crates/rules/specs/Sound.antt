@@ -13,8 +13,8 @@ use Rattle.rules.specs.declared.Domain.{Domain}
 use Rattle.rules.specs.declared.State.{State}
 use Rattle.rules.specs.declared.Mapping.{Mapping}
 use Rattle.rules.specs.declared.Fault.{Fault}
-use Rattle.rules.specs.Sizes.{maxRecords, recordWords, tableWords, maxFaults, faultPlaces, maxLost}
-use Rattle.rules.specs.Configuration.{Config, share, good}
+use Rattle.rules.specs.Sizes.{endpointRegionWords, maxRecords, recordWords, tableWords, maxFaults, faultPlaces, maxLost}
+use Rattle.rules.specs.Configuration.{Config, share, endpointRegions, usedWords, good}
 use Rattle.rules.specs.Table.{guestOf, domainOf, before, apart}
 use Rattle.rules.specs.State.{Attachment, World, Device, configOf, read, faultAt, domainAt}
 use Rattle.rules.specs.Guests.{Own, Part, own, part, recordsOf}
@@ -64,6 +64,9 @@ unusedTests s =
     ∷ zeroFrom (s .listed) (s .owners)
     ∷ zeroFrom (s .listed) (s .attached)
     ∷ zeroFrom (s .listed) (s .domains)
+    -- "unused region places are zero"
+    ∷ zeroFrom (endpointRegionWords * s .listed) (s .regions)
+    ∷ below (s .listed) (λ i. zeroFrom (usedWords (s .regions) i) (endpointRegions (s .regions) i))
     ∷ []
 
 abbrev pub placeTests : State → List Bool

@@ -1,6 +1,7 @@
 -- "The state holds the configuration, the live count, whether each endpoint is attached and to which domain (0 where
 -- unattached; an attached one may be in domain 0 too), and for each guest a fault log of at most 16 records, oldest first,
--- unused places zero, and a lost count that stops at 65,535. Guest and endpoint places not in use are zero too."
+-- unused places zero, and a lost count that stops at 65,535. Guest and endpoint places not in use are zero too." "[U]nused region
+-- places are zero."
 use Prim.Native.Nat.{ℕ, _+_, _*_, _/_, _%_}
 use mathlib.Core.Path.{_≡_}
 use mathlib.Core.Bool.{cond}
@@ -14,8 +15,8 @@ use Rattle.rules.specs.declared.Settings.{Settings}
 use Rattle.rules.specs.declared.State.{State}
 use Rattle.rules.specs.declared.Mapping.{Mapping}
 use Rattle.rules.specs.declared.Fault.{Fault}
-use Rattle.rules.specs.Sizes.{maxGuests, maxEndpoints, maxFaults, faultPlaces}
-use Rattle.rules.specs.Configuration.{Config, share, windowFirst, windowLast}
+use Rattle.rules.specs.Sizes.{maxGuests, maxEndpoints, endpointRegionWords, regionPlaces, maxFaults, faultPlaces}
+use Rattle.rules.specs.Configuration.{Config, share, windowFirst, windowLast, regionUsed}
 use Rattle.rules.specs.Table.{records, tableOf}
 
 -- whether an endpoint is attached, and to which domain
@@ -48,7 +49,13 @@ pub record Device : Type 0 where
 
 -- the configuration that a state holds
 unfoldable pub configOf : State → Config
-configOf s = record { settings = s .settings; endpoints = take (s .listed) (s .endpoints); owners = take (s .listed) (s .owners) }
+configOf s =
+    record {
+      settings = s .settings;
+      endpoints = take (s .listed) (s .endpoints);
+      owners = take (s .listed) (s .owners);
+      regions = take (endpointRegionWords * s .listed) (s .regions);
+    }
 
 -- an attached flag of 1, with the domain beside it, is an attachment
 abbrev pub attachment : ℕ → ℕ → Attachment
@@ -96,6 +103,10 @@ trimmed s =
       domains = s .domains;
     }
 
+-- the words of the regions of n endpoints, with those that are not in use zero
+unfoldable pub trimmedRegions : ℕ → List ℕ → List ℕ
+trimmedRegions n words = tab regionPlaces (λ k. cond (regionUsed n words k) (getD words k 0) 0)
+
 -- an attachment's flag and domain, "0 where unattached"
 abbrev pub flagOf : Attachment → ℕ
 flagOf none = 0
@@ -121,6 +132,7 @@ stateOf c w =
       owners = pad maxEndpoints 0 (c .owners);
       attached = tab maxEndpoints (λ i. flagOf (getD (w .attachments) i none));
       domains = tab maxEndpoints (λ i. numberOf (getD (w .attachments) i none));
+      regions = trimmedRegions (length (c .endpoints)) (c .regions);
       live = length (w .records);
       logged = tab maxGuests (λ g. length (logOf w g .faults));
       lost = tab maxGuests (λ g. logOf w g .lost);
@@ -156,6 +168,7 @@ zeroState =
       owners = replicate maxEndpoints 0;
       attached = replicate maxEndpoints 0;
       domains = replicate maxEndpoints 0;
+      regions = replicate regionPlaces 0;
       live = 0;
       logged = replicate maxGuests 0;
       lost = replicate maxGuests 0;
@@ -174,6 +187,7 @@ pub record Lengths (s : State) : Type 0 where
   pub owners : length (s .owners) ≡ maxEndpoints
   pub attached : length (s .attached) ≡ maxEndpoints
   pub domains : length (s .domains) ≡ maxEndpoints
+  pub regions : length (s .regions) ≡ regionPlaces
   pub logged : length (s .logged) ≡ maxGuests
   pub lost : length (s .lost) ≡ maxGuests
   pub reasons : length (s .reasons) ≡ faultPlaces

@@ -5,6 +5,7 @@ pub mod sizes;
 use sizes::FAULT_PLACES;
 use sizes::MAX_ENDPOINTS;
 use sizes::MAX_GUESTS;
+use sizes::REGION_PLACES;
 
 // A guest's number, below the guest count.
 #[repr(C)]
@@ -43,8 +44,17 @@ pub struct Settings {
     pub domains: DomainRange,
 }
 
+// A reserved region of an endpoint, which no mapping may meet: subtype 0 is reserved, 1 is MSI.
+#[repr(C)]
+pub struct Region {
+    pub subtype: u64,
+    pub start: u64,
+    pub end: u64,
+}
+
 // The device's state. Endpoint i has its number, owner, attached flag (0 or 1) and domain at place i of four arrays;
-// fault j of guest g stands at place MAX_FAULTS * g + j of four arrays, with the guest's number of faults in logged.
+// fault j of guest g stands at place MAX_FAULTS * g + j of four arrays, with the guest's number of faults in logged. The regions
+// of endpoint i stand in regions from word ENDPOINT_REGION_WORDS * i on: their number, then subtype, start and end of each.
 #[repr(C)]
 pub struct State {
     pub settings: Settings,
@@ -53,6 +63,7 @@ pub struct State {
     pub owners: [u8; MAX_ENDPOINTS],
     pub attached: [u8; MAX_ENDPOINTS],
     pub domains: [u32; MAX_ENDPOINTS],
+    pub regions: [u64; REGION_PLACES],
     pub live: usize,
     pub logged: [usize; MAX_GUESTS],
     pub lost: [u32; MAX_GUESTS],

@@ -6,6 +6,18 @@ pub const MAX_GUESTS: usize = 4;
 // The endpoints that there may be.
 pub const MAX_ENDPOINTS: usize = 32;
 
+// The reserved regions that an endpoint may have.
+pub const MAX_REGIONS: usize = 4;
+
+// The words of a region: subtype, start, end.
+pub const REGION_WORDS: usize = 3;
+
+// The words for an endpoint's regions: their number, then those of each region.
+pub const ENDPOINT_REGION_WORDS: usize = 1 + REGION_WORDS * MAX_REGIONS;
+
+// The words for the regions of all endpoints.
+pub const REGION_PLACES: usize = ENDPOINT_REGION_WORDS * MAX_ENDPOINTS;
+
 // The records that the mapping table has room for.
 pub const MAX_RECORDS: usize = 256;
 
