@@ -73,6 +73,14 @@ module _ {A : Type 0} (q : A → Bool) where
   keep-same r [] f = refl
   keep-same r (x ∷ l) f = rw (f x, keep-same r l f)
 
+  pub any-append : (l m : List A) → any? q (l ++ m) ≡ (any? q l || any? q m)
+  any-append [] m = refl
+  any-append (x ∷ l) m = go (q x) (any-append l m)
+    where
+      go : (b : Bool) → any? q (l ++ m) ≡ (any? q l || any? q m) → (b || any? q (l ++ m)) ≡ ((b || any? q l) || any? q m)
+      go true e = refl
+      go false e = e
+
   pub any-same : (r : A → Bool) (l : List A) → ((x : A) → q x ≡ r x) → any? q l ≡ any? r l
   any-same r [] f = refl
   any-same r (x ∷ l) f = rw (f x, any-same r l f)

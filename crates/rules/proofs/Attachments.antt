@@ -2,18 +2,20 @@
 use Prim.Native.Nat.{ℕ, zero, suc}
 use mathlib.Core.Path.{_≡_, refl, sym, ap, _∙_}
 use mathlib.Core.Bool.{Bool, true, false, cond, _||_}
-use mathlib.Core.List.{List, [], _∷_}
+use mathlib.Core.List.{List, [], _∷_, _++_}
 use mathlib.Core.Option.{some, none}
 use mathlib.Core.Logic.{_⊎_, inl, inr}
 use lib.Dec.{eqb}
 use lib.ListN.{length, replicate}
 use borrow.Author.Tests.{eqb-true, eqb-false, ne-eqb}
 use Rattle.laws.specs.Lists.{all?, any?}
-use Rattle.laws.proofs.Tests.{both, both-left, both-right, or-cases, or-left, or-right}
+use Rattle.laws.proofs.Tests.{both, both-left, both-right, true-false, or-cases, or-left, or-right, nor, or-none}
+use Rattle.laws.proofs.Filters.{any-append}
 use Rattle.rules.specs.declared.Endpoint.{Endpoint}
 use Rattle.rules.specs.declared.Domain.{Domain}
+use Rattle.rules.specs.declared.Region.{Region}
 use Rattle.rules.specs.State.{Attachment}
-use Rattle.rules.specs.Handlers.{isIn, domainExists, attachmentOf, attachedAs}
+use Rattle.rules.specs.Handlers.{isIn, domainExists, attachmentOf, attachedAs, regionsOf, regionsIn}
 
 pub length-attachedAs : (e : Endpoint) (b : Attachment) (es : List ℕ) (l : List Attachment) → length (attachedAs e b es l) ≡ length l
 length-attachedAs e b [] l = refl
@@ -48,6 +50,35 @@ exists-attachedAs d e b (k ∷ es) (a ∷ l) f h = go (eqb k (e .0)) f (λ g i. 
         mid : (isIn d a ≡ true) ⊎ (any? (isIn d) l ≡ true) → (any? (isIn d) l ≡ true → any? (isIn d) (attachedAs e b es l) ≡ true) → (isIn d a || any? (isIn d) (attachedAs e b es l)) ≡ true
         mid (inl x) i = or-left (isIn d a) _ x
         mid (inr x) i = or-right (isIn d a) _ (i x)
+
+-- where endpoint e gets the attachment b, a domain has no region more than it had but those of e, if e is then in it
+pub regions-attachedAs : (q : Region → Bool) (d : Domain) (e : Endpoint) (b : Attachment) (es : List ℕ) (l : List Attachment) (rs : List (List Region))
+    → any? q (regionsIn d l rs) ≡ false → (isIn d b ≡ true → any? q (regionsOf e es rs) ≡ false) → any? q (regionsIn d (attachedAs e b es l) rs) ≡ false
+regions-attachedAs q d e b [] l rs h f = h
+regions-attachedAs q d e b (k ∷ es) [] rs h f = refl
+regions-attachedAs q d e b (k ∷ es) (a ∷ l) [] h f = go (eqb k (e .0))
+  where
+    go : (t : Bool) → any? q (regionsIn d (cond t (b ∷ l) (a ∷ attachedAs e b es l)) []) ≡ false
+    go true = refl
+    go false = refl
+regions-attachedAs q d e b (k ∷ es) (a ∷ l) (x ∷ rs) h f = go (eqb k (e .0)) f (λ i j. regions-attachedAs q d e b es l rs i j)
+  where
+    -- the regions of one endpoint more, where it is in the domain
+    onto : (t : Bool) (m : List Region) → any? q (cond t (x ++ m) m) ≡ false → (any? q m ≡ false) × (t ≡ true → any? q x ≡ false)
+    onto true m i = let n = nor (any? q x) (any? q m) (sym (any-append q x m) ∙ i) in (n .1, λ _. n .0)
+    onto false m i = (i, λ j. true-false true refl (sym j))
+
+    back : (t : Bool) (m : List Region) → any? q m ≡ false → (t ≡ true → any? q x ≡ false) → any? q (cond t (x ++ m) m) ≡ false
+    back true m i j = any-append q x m ∙ or-none (any? q x) (any? q m) (j refl) i
+    back false m i j = i
+
+    rest : (any? q (regionsIn d l rs) ≡ false) × (isIn d a ≡ true → any? q x ≡ false)
+    rest = onto (isIn d a) (regionsIn d l rs) h
+
+    go : (t : Bool) → (isIn d b ≡ true → any? q (cond t x (regionsOf e es rs)) ≡ false) → (any? q (regionsIn d l rs) ≡ false → (isIn d b ≡ true → any? q (regionsOf e es rs) ≡ false) → any? q (regionsIn d (attachedAs e b es l) rs) ≡ false)
+        → any? q (regionsIn d (cond t (b ∷ l) (a ∷ attachedAs e b es l)) (x ∷ rs)) ≡ false
+    go true f ih = back (isIn d b) (regionsIn d l rs) (rest .0) f
+    go false f ih = back (isIn d a) (regionsIn d (attachedAs e b es l) rs) (ih (rest .0) f) (rest .1)
 
 -- a detached endpoint is in no domain
 pub detached : (d : Domain) (e : Endpoint) (es : List ℕ) (l : List Attachment) → isIn d (attachmentOf e es (attachedAs e none es l)) ≡ false

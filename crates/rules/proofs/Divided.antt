@@ -21,7 +21,7 @@ use Rattle.rules.specs.Table.{before, apart}
 use Rattle.rules.specs.State.{Attachment, Log, Device, noFault, configOf, attachment, attachmentAt, faultAt, logAt, read}
 use Rattle.rules.specs.Guests.{own, part}
 use Rattle.rules.specs.Handlers.{outside}
-use Rattle.rules.specs.Sound.{guest, recordGood, recordPasses, attachmentGood, inRange, flagGood, faultGood, faultZero, faultUsed, faultPlaceGood, sound, partTests, commonTests}
+use Rattle.rules.specs.Sound.{guest, recordGood, recordPasses, offRegions, recordClear, attachmentGood, inRange, flagGood, faultGood, faultZero, faultUsed, faultPlaceGood, sound, partTests, commonTests}
 use Rattle.rules.specs.Claims.{SoundByParts}
 use Rattle.rules.proofs.Records.{mine, before-guest, apart-guests, all-guests, pairwise-guests}
 use Rattle.rules.proofs.Zeros.{zero-past}
@@ -113,6 +113,11 @@ module _ (d : Device) (k : Common d) (parts : (g : ℕ) → g < d .state .settin
       all-guests n (λ g. recordGood (own c (guest g)) (part c (guest g) (read d) .attachments)) (read d .records) (k .guests)
       (λ g l. unfold part in facts g l .records)
 
+  records-clear : all? (recordClear c (read d)) (read d .records) ≡ true
+  records-clear =
+      all-guests n (λ g. offRegions (own c (guest g)) (part c (guest g) (read d) .attachments)) (read d .records) (k .guests)
+      (λ g l. unfold part in facts g l .clear)
+
   pub sound-from : sound d ≡ true
   sound-from =
       sound-tests d
@@ -124,6 +129,7 @@ module _ (d : Device) (k : Common d) (parts : (g : ℕ) → g < d .state .settin
           order = pairwise-guests n before before-guest (read d .records) (k .guests) (k .upward) (λ g l. unfold part in facts g l .order);
           zeros = k .zeros;
           passing = records-pass;
+          clear = records-clear;
           disjoint = pairwise-guests n apart apart-guests (read d .records) (k .guests) (k .upward) (λ g l. unfold part in facts g l .disjoint);
           shares = λ g l. unfold own part configOf in facts g l .share;
         };

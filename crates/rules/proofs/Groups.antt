@@ -16,7 +16,7 @@ use Rattle.rules.specs.Configuration.{Config, share, windowFirst, window
 use Rattle.rules.specs.Table.{guestOf, before, apart}
 use Rattle.rules.specs.State.{Log, Device, configOf, domainAt, read, faultAt}
 use Rattle.rules.specs.Guests.{Own, Part, recordsOf}
-use Rattle.rules.specs.Sound.{guest, recordGood, recordPasses, attachmentGood, inRange, flagGood, faultGood, faultZero, faultUsed, faultPlaceGood, zeroFrom, frameTests, unusedTests, placeTests, logTests, recordTests, sound, partTests, commonTests}
+use Rattle.rules.specs.Sound.{guest, recordGood, recordPasses, offRegions, recordClear, attachmentGood, inRange, flagGood, faultGood, faultZero, faultUsed, faultPlaceGood, zeroFrom, frameTests, unusedTests, placeTests, logTests, recordTests, sound, partTests, commonTests}
 use Rattle.rules.proofs.Records.{mine}
 
 -- A GOOD CONFIGURATION
@@ -177,6 +177,7 @@ pub record Recorded (d : Device) : Type 0 where
   pub order : pairwise before (read d .records) ≡ true
   pub zeros : zeroFrom (recordWords * d .state .live) (d .table) ≡ true
   pub passing : all? (recordPasses (configOf (d .state)) (read d)) (read d .records) ≡ true
+  pub clear : all? (recordClear (configOf (d .state)) (read d)) (read d .records) ≡ true
   pub disjoint : pairwise apart (read d .records) ≡ true
   pub shares : (g : ℕ) → g < d .state .settings .guests → length (recordsOf (guest g) (read d .records)) ≤ share (d .state .settings) g
 
@@ -187,14 +188,15 @@ record-facts d h =
       order = t .0;
       zeros = t .1 .0;
       passing = t .1 .1 .0;
-      disjoint = t .1 .1 .1 .0;
-      shares = λ g l. leb-true _ _ (below-at (d .state .settings .guests) (λ g. leb (length (recordsOf (guest g) (read d .records))) (share (d .state .settings) g)) g (t .1 .1 .1 .1 .0) l);
+      clear = t .1 .1 .1 .0;
+      disjoint = t .1 .1 .1 .1 .0;
+      shares = λ g l. leb-true _ _ (below-at (d .state .settings .guests) (λ g. leb (length (recordsOf (guest g) (read d .records))) (share (d .state .settings) g)) g (t .1 .1 .1 .1 .1 .0) l);
     }
 
 pub record-tests : (d : Device) → Recorded d → every? (recordTests d) ≡ true
 record-tests d h =
     closed (recordTests d)
-    (h .order, (h .zeros, (h .passing, (h .disjoint, (below-all (d .state .settings .guests) _ (λ g l. le-leb _ _ (h .shares g l)), tt)))))
+    (h .order, (h .zeros, (h .passing, (h .clear, (h .disjoint, (below-all (d .state .settings .guests) _ (λ g l. le-leb _ _ (h .shares g l)), tt))))))
 
 -- SOUNDNESS
 
@@ -231,6 +233,7 @@ pub record Facts (o : Own) (p : Part) : Type 0 where
   pub attachments : all? (inRange o) (p .attachments) ≡ true
   pub order : pairwise before (p .records) ≡ true
   pub records : all? (recordGood o (p .attachments)) (p .records) ≡ true
+  pub clear : all? (offRegions o (p .attachments)) (p .records) ≡ true
   pub disjoint : pairwise apart (p .records) ≡ true
   pub share : length (p .records) ≤ o .share
   pub log : LogFacts o (p .log)
@@ -238,7 +241,7 @@ pub record Facts (o : Own) (p : Part) : Type 0 where
 pub part-facts : (o : Own) (p : Part) → o .domains .end < domainSpan → length (p .attachments) ≡ length (o .endpoints) → all? (mine (o .guest)) (p .records) ≡ true → every? (partTests o p) ≡ true → Facts o p
 part-facts o p narrow size own h =
     let t = opened (partTests o p) h in
-    let l = t .1 .1 .1 .1 .1 in
+    let l = t .1 .1 .1 .1 .1 .1 in
     record {
       narrow = narrow;
       size = size;
@@ -246,8 +249,9 @@ part-facts o p narrow size own h =
       attachments = t .0;
       order = t .1 .0;
       records = t .1 .1 .0;
-      disjoint = t .1 .1 .1 .0;
-      share = leb-true _ _ (t .1 .1 .1 .1 .0);
+      clear = t .1 .1 .1 .0;
+      disjoint = t .1 .1 .1 .1 .0;
+      share = leb-true _ _ (t .1 .1 .1 .1 .1 .0);
       log = record { count = leb-true _ _ (l .0); lost = leb-true _ _ (l .1 .0); faults = l .1 .1 .0 };
     }
 
@@ -255,7 +259,7 @@ pub part-tests : (o : Own) (p : Part) → Facts o p → every? (partTests o p) �
 part-tests o p h =
     closed (partTests o p) (
       h .attachments,
-      (h .order, (h .records, (h .disjoint, (le-leb _ _ (h .share), (le-leb _ _ (h .log .count), (le-leb _ _ (h .log .lost), (h .log .faults, tt))))))),
+      (h .order, (h .records, (h .clear, (h .disjoint, (le-leb _ _ (h .share), (le-leb _ _ (h .log .count), (le-leb _ _ (h .log .lost), (h .log .faults, tt)))))))),
     )
 
 -- WHAT IS NO GUEST'S PART

@@ -21,8 +21,8 @@ use Rattle.rules.specs.Configuration.{Config}
 use Rattle.rules.specs.Table.{keyOf, insertMapping}
 use Rattle.rules.specs.State.{Attachment, World, Device, read, write}
 use Rattle.rules.specs.Guests.{Own, Part, own, part, withRecords}
-use Rattle.rules.specs.Requests.{OK, ATTACH, DETACH, MAP, requestRefusals, typeOf, domainField, endpointField, attachReserved, virtStart, virtEnd, unmapReserved, DEVERR, UNMAP}
-use Rattle.rules.specs.Handlers.{settle, isIn, attachmentOf, without, leave, enter, moveFrom, attached, attachSteps, handleAttach, detachSteps, handleDetach, mapSteps, handleMap, inside, unmapSteps, handleUnmap, askedFor, handle, statusOf}
+use Rattle.rules.specs.Requests.{OK, ATTACH, DETACH, MAP, requestRefusals, typeOf, domainField, endpointField, attachReserved, virtStart, virtEnd, unmapReserved, probeEndpoint, DEVERR, UNMAP, PROBE}
+use Rattle.rules.specs.Handlers.{settle, isIn, attachmentOf, without, leave, enter, moveFrom, attached, attachSteps, handleAttach, detachSteps, handleDetach, mapSteps, handleMap, inside, unmapSteps, handleUnmap, probeSteps, askedFor, handle, bytesBefore, statusOf}
 use Rattle.rules.specs.Access.{findMapping, blocked, translated, decided, access, afterReset}
 use Rattle.rules.specs.Device.{request, reset, fetch, Call, of-guest, access-by, Reply, requested, jobRule, rule, owns}
 use Rattle.rules.specs.History.{goneWithDomain, goneByMove, goneByRequest, goneByJob, gone, takenAway, mappedByJob, mapped, Tally, counted, history}
@@ -58,7 +58,7 @@ module _ (o : Own) (p : Part) where
   attach-left : (e : Endpoint) (d : Domain) (z : ℕ) → handleAttach o p d e z .1 .records ≡ keep (λ r. not (eqb (handleAttach o p d e z .0) OK && goneByMove o p e d (attachmentOf e (o .endpoints) (p .attachments)) r)) (p .records)
   unfolding handleAttach
   attach-left e d z =
-      settled (λ b q. q .records ≡ keep (λ r. not (b && goneByMove o p e d a r)) (p .records)) (statusOf (attachSteps o d e z)) p (attached o e d p)
+      settled (λ b q. q .records ≡ keep (λ r. not (b && goneByMove o p e d a r)) (p .records)) (statusOf (attachSteps o p d e z)) p (attached o e d p)
       (unfold attached in go a) (sym (all-kept (p .records)))
     where
       a : Attachment
@@ -86,7 +86,7 @@ module _ (o : Own) (p : Part) where
 
   handle-left : (q : List ℕ) → eqb (typeOf q) MAP ≡ false → handle o p q .1 .records ≡ keep (λ r. not (goneByRequest o p q r)) (p .records)
   unfolding handle goneByRequest
-  handle-left q m = rw m (go (eqb (typeOf q) ATTACH) (eqb (typeOf q) DETACH) (eqb (typeOf q) UNMAP))
+  handle-left q m = rw m (go (eqb (typeOf q) ATTACH) (eqb (typeOf q) DETACH) (eqb (typeOf q) UNMAP) (eqb (typeOf q) PROBE))
     where
       d : Domain
       d = domainField q
@@ -94,16 +94,17 @@ module _ (o : Own) (p : Part) where
       e : Endpoint
       e = endpointField q
 
-      by : Bool → Bool → Bool → ℕ × Part
-      by t u v = cond t (handleAttach o p d e (attachReserved q)) (cond u (handleDetach o p d e (attachReserved q)) (cond v (handleUnmap o p d (virtStart q) (virtEnd q) (unmapReserved q)) (DEVERR, p)))
+      by : Bool → Bool → Bool → Bool → ℕ × Part
+      by t u v w = cond t (handleAttach o p d e (attachReserved q)) (cond u (handleDetach o p d e (attachReserved q)) (cond v (handleUnmap o p d (virtStart q) (virtEnd q) (unmapReserved q)) (cond w (statusOf (probeSteps o (probeEndpoint q)), p) (DEVERR, p))))
 
-      go : (t u v : Bool) → by t u v .1 .records
-          ≡ keep (λ r. not (eqb (by t u v .0) OK && cond t (goneByMove o p e d (attachmentOf e (o .endpoints) (p .attachments)) r)
+      go : (t u v w : Bool) → by t u v w .1 .records
+          ≡ keep (λ r. not (eqb (by t u v w .0) OK && cond t (goneByMove o p e d (attachmentOf e (o .endpoints) (p .attachments)) r)
           (cond u (goneWithDomain o p e d r) (cond v (inside (keyOf (o .guest) d) (virtStart q) (virtEnd q) r) false)))) (p .records)
-      go true u v = attach-left e d (attachReserved q)
-      go false true v = detach-left e d (attachReserved q)
-      go false false true = unmap-left d (virtStart q) (virtEnd q) (unmapReserved q)
-      go false false false = sym (all-kept (p .records))
+      go true u v w = attach-left e d (attachReserved q)
+      go false true v w = detach-left e d (attachReserved q)
+      go false false true w = unmap-left d (virtStart q) (virtEnd q) (unmapReserved q)
+      go false false false true = sym (keep-same (λ r. not (eqb (statusOf (probeSteps o (probeEndpoint q))) OK && false)) (λ r. true) (p .records) (λ r. ap not (both-false (eqb (statusOf (probeSteps o (probeEndpoint q))) OK))) ∙ all-kept (p .records))
+      go false false false false = sym (all-kept (p .records))
 
   access-left : (x : Access) → access o p x .1 .records ≡ p .records
   unfolding access
@@ -135,7 +136,7 @@ module _ (o : Own) (p : Part) where
 
   mapped-balance : (g : Guest) (q w : List ℕ) → firstFailing (requestRefusals q (length w)) ≡ none → typeOf q ≡ MAP → keep (gone o p (of-guest g (request q w))) (p .records) ≡ []
       → length (rule o p (of-guest g (request q w)) .1 .records) + takenAway o p (of-guest g (request q w)) ≡ length (p .records) + cond (mapped (of-guest g (request q w)) (rule o p (of-guest g (request q w)) .0)) 1 0
-  unfolding rule jobRule takenAway mapped mappedByJob requested handle
+  unfolding rule jobRule takenAway mapped mappedByJob requested handle bytesBefore
   mapped-balance g q w e three k = rw (k, e, three) (omega (arith, map-balance (domainField q) (askedFor o q)))
 
   worked-balance : (g : Guest) (q w : List ℕ) → firstFailing (requestRefusals q (length w)) ≡ none → (t : Bool) → eqb (typeOf q) MAP ≡ t

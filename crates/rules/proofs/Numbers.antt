@@ -33,7 +33,7 @@ use Rattle.rules.proofs.Accesses.{answered, looked-up}
 abbrev byLength : List ℕ → List ℕ → List (Bool × ℕ)
 byLength r w =
     (ltb (length r) 4, 4)
-    ∷ (ltb (typeOf r) 1 || ltb 4 (typeOf r), 3)
+    ∷ (ltb (typeOf r) 1 || ltb 5 (typeOf r), 3)
     ∷ (not (eqb (length r) (readableLength (typeOf r))) || not (eqb (length w) (writableLength (typeOf r))), 4)
     ∷ []
 
@@ -52,14 +52,14 @@ job-number d g j l h = go (ltb (g .0) (d .state .settings .guests)) refl (sound 
         rw (sound-step d (of-guest g j) (unfold configOf in e) f, lt-leb (d .state .settings .guests) (g .0) (ltb-true (g .0) (d .state .settings .guests) e), f)
         (unfold caller performed work rule in h)
 
-known-type : (t : ℕ) → not (leb 1 t && leb t 4) ≡ (ltb t 1 || ltb 4 t)
-known-type t = not-both (leb 1 t) (leb t 4) ∙ rw (not-leb 1 t, not-leb t 4)
+known-type : (t : ℕ) → not (leb 1 t && leb t 5) ≡ (ltb t 1 || ltb 5 t)
+known-type t = not-both (leb 1 t) (leb t 5) ∙ rw (not-leb 1 t, not-leb t 5)
 
 requested-number : (o : Own) (p : Part) (r w : List ℕ)
     → number (jobRule o p (request r w) .0 .answer)
     ≡ firstNumber (byLength r w)
 unfolding jobRule requested
-requested-number o p r w = rw (sym (known-type (typeOf r))) (go (ltb (length r) 4) (not (leb 1 (typeOf r) && leb (typeOf r) 4)) (not (eqb (length r) (readableLength (typeOf r)))) (not (eqb (length w) (writableLength (typeOf r)))))
+requested-number o p r w = rw (sym (known-type (typeOf r))) (go (ltb (length r) 4) (not (leb 1 (typeOf r) && leb (typeOf r) 5)) (not (eqb (length r) (readableLength (typeOf r)))) (not (eqb (length w) (writableLength (typeOf r)))))
   where
     go : (a b c e : Bool)
         → number (requested o p r w (cond a (some WrongLength) (cond b (some UnknownType) (cond c (some WrongLength) (cond e (some WrongLength) none)))) .0 .answer)

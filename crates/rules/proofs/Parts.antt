@@ -10,7 +10,7 @@ use lib.Dec.{ltb, eqb}
 use lib.ListN.{length, length-append, length-drop, length-replicate}
 use borrow.Author.Tests.{ltb-true, eqb-true, eq-eqb, lt-ltb, not-true}
 use Rattle.laws.specs.Lists.{all?, any?, firstFailing}
-use Rattle.laws.proofs.Tests.{either-way, both, both-left, both-right, true-false, Clear, cleared, passed}
+use Rattle.laws.proofs.Tests.{either-way, both, both-left, both-right, true-false, and-not, eqb-sym, Clear, cleared, passed}
 use Rattle.laws.proofs.Filters.{all-imp, all-append, all-drop, all-keep, none-passes, length-keep, pairwise-keep}
 use Rattle.rules.specs.declared.Endpoint.{Endpoint}
 use Rattle.rules.specs.declared.Domain.{Domain}
@@ -22,17 +22,18 @@ use Rattle.rules.specs.declared.Cause.{Cause}
 use Rattle.rules.specs.declared.Cause.the-variants.{Unattached, Unmapped}
 use Rattle.rules.specs.Sizes.{domainSpan, maxFaults, maxLost}
 use Rattle.rules.specs.Table.{keyOf, guestOf, domainOf, before, overlap, apart, insertMapping}
+use Rattle.rules.specs.Configuration.{meets}
 use Rattle.rules.specs.State.{Attachment, Log}
 use Rattle.rules.specs.Guests.{Own, Part, withRecords, withLog}
-use Rattle.rules.specs.Requests.{requestRefusals, typeOf, ATTACH, DETACH, MAP, domainField, endpointField, attachReserved, virtStart, virtEnd, unmapReserved, UNMAP}
-use Rattle.rules.specs.Handlers.{outside, isIn, domainExists, listed, attachmentOf, attachedAs, ofKey, without, leave, enter, moveFrom, attached, attachSteps, handleAttach, detachSteps, handleDetach, formSteps, recordSteps, mapSteps, handleMap, unmapSteps, handleUnmap, askedFor, handle}
+use Rattle.rules.specs.Requests.{requestRefusals, typeOf, ATTACH, DETACH, MAP, domainField, endpointField, attachReserved, virtStart, virtEnd, unmapReserved, UNMAP, PROBE}
+use Rattle.rules.specs.Handlers.{outside, isIn, domainExists, listed, attachmentOf, attachedAs, ofKey, regionsOf, onRegion, without, leave, enter, moveFrom, attached, attachSteps, handleAttach, detachSteps, handleDetach, formSteps, recordSteps, mapSteps, handleMap, unmapSteps, handleUnmap, askedFor, handle}
 use Rattle.rules.specs.Access.{logged, reasonOf, faultOf, blocked, translated, findMapping, decided, access, afterReset, fetchable, fetchedFrom}
-use Rattle.rules.specs.Sound.{passes, faultGood, recordGood, inRange}
+use Rattle.rules.specs.Sound.{passes, faultGood, recordGood, offRegions, inRange}
 use Rattle.rules.specs.Device.{Job, request, reset, fetch, Call, of-guest, access-by, requested, jobRule, rule}
 use Rattle.rules.proofs.Records.{key-guest, key-domain, key-back, wide, mine, all-insert, length-insert, insert-ordered, insert-apart}
 use Rattle.rules.proofs.Groups.{LogFacts, Facts}
-use Rattle.rules.proofs.Chains.{settle-keeps, outside-high, attaches, detaches, formed, recorded, Maps, maps}
-use Rattle.rules.proofs.Attachments.{length-attachedAs, all-attachedAs, exists-attachedAs, detached, in-one, all-none}
+use Rattle.rules.proofs.Chains.{settle-keeps, outside-high, unbarred, attaches, detaches, formed, recorded, Maps, maps}
+use Rattle.rules.proofs.Attachments.{length-attachedAs, all-attachedAs, exists-attachedAs, regions-attachedAs, detached, in-one, all-none}
 
 -- LOGS
 
@@ -113,6 +114,7 @@ without-keeps o p q f =
       attachments = f .attachments;
       own = all-keep (mine (o .guest)) (λ r. not (q r)) (mine (o .guest)) (p .records) (λ x e g. g) (f .own);
       records = all-keep (recordGood o (p .attachments)) (λ r. not (q r)) (recordGood o (p .attachments)) (p .records) (λ x e g. g) (f .records);
+      clear = all-keep (offRegions o (p .attachments)) (λ r. not (q r)) (offRegions o (p .attachments)) (p .records) (λ x e g. g) (f .clear);
       order = pairwise-keep before (λ r. not (q r)) (p .records) (f .order);
       disjoint = pairwise-keep apart (λ r. not (q r)) (p .records) (f .disjoint);
       share = le-trans (length-keep (λ r. not (q r)) (p .records)) (f .share);
@@ -120,10 +122,17 @@ without-keeps o p q f =
     }
 
 -- other attachments under which every record is still ok
-reattached : (o : Own) (p : Part) (l : List Attachment) → length l ≡ length (p .attachments) → all? (inRange o) l ≡ true → all? (recordGood o l) (p .records) ≡ true → Facts o p
+reattached : (o : Own) (p : Part) (l : List Attachment) → length l ≡ length (p .attachments) → all? (inRange o) l ≡ true → all? (recordGood o l) (p .records) ≡ true → all? (offRegions o l) (p .records) ≡ true → Facts o p
     → Facts o (record { attachments = l; records = p .records; log = p .log })
-reattached o p l n a h f =
-    record { narrow = f .narrow; size = n ∙ f .size; attachments = a; own = f .own; records = h; order = f .order; disjoint = f .disjoint; share = f .share; log = f .log }
+reattached o p l n a h c f =
+    record { narrow = f .narrow; size = n ∙ f .size; attachments = a; own = f .own; records = h; clear = c; order = f .order; disjoint = f .disjoint; share = f .share; log = f .log }
+
+-- a record that overlaps no region of its domain's endpoints overlaps none when endpoint e is attached as b, where b is another
+-- domain or e's regions are not overlapped either
+reattached-clear : (o : Own) (l : List Attachment) (e : Endpoint) (b : Attachment) (r : Mapping) → offRegions o l r ≡ true → (isIn (domainOf r) b ≡ true → onRegion (regionsOf e (o .endpoints) (o .regions)) r ≡ false)
+    → offRegions o (attachedAs e b (o .endpoints) l) r ≡ true
+unfolding offRegions onRegion
+reattached-clear o l e b r h f = ap not (regions-attachedAs (meets (r .start) (r .end)) (domainOf r) e b (o .endpoints) l (o .regions) (not-true _ h) f)
 
 pub leave-facts : (o : Own) (p : Part) (e : Endpoint) (d : Domain) → isIn d (attachmentOf e (o .endpoints) (p .attachments)) ≡ true → Facts o p → Facts o (leave o e d p)
 unfolding leave
@@ -131,6 +140,7 @@ leave-facts o p e d h f =
     reattached o (withRecords (without gone (p .records)) p) new (length-attachedAs e none (o .endpoints) (p .attachments))
     (all-attachedAs (inRange o) e none (o .endpoints) (p .attachments) (unfold inRange in refl) (f .attachments))
     (unfold without in all-keep both-ok (λ r. not (gone r)) (recordGood o new) (p .records) (λ r k g. still r k (both-left (mine (o .guest) r) _ g) (both-right (mine (o .guest) r) _ g)) (all-both (p .records) (f .own) (f .records)))
+    (all-imp (offRegions o (p .attachments)) (offRegions o new) (without gone (p .records)) (λ r c. still-clear r c) (without-keeps o p gone f .clear))
     (without-keeps o p gone f)
   where
     new : List Attachment
@@ -149,6 +159,9 @@ leave-facts o p e d h f =
         (both (mine (o .guest) r) _ (both-left (mine (o .guest) r) _ a) (both-left (recordGood o (p .attachments) r) _ b))
         (all-both l (both-right (mine (o .guest) r) _ a) (both-right (recordGood o (p .attachments) r) _ b))
 
+    still-clear : (r : Mapping) → offRegions o (p .attachments) r ≡ true → offRegions o new r ≡ true
+    still-clear r c = reattached-clear o (p .attachments) e none r c (λ i. unfold isIn in true-false true refl (sym i))
+
     still : (r : Mapping) → not (gone r) ≡ true → mine (o .guest) r ≡ true → recordGood o (p .attachments) r ≡ true → recordGood o new r ≡ true
     still r k m g = record-ok o new r (go (eqb (domainOf r .0) (d .0)) refl) (record-form o (p .attachments) r g)
       where
@@ -163,28 +176,42 @@ leave-facts o p e d h f =
         go false x = exists-attachedAs (domainOf r) e none (o .endpoints) (p .attachments) (in-one d (domainOf r) _ h x) (record-exists o (p .attachments) r g)
 
 pub enter-facts : (o : Own) (p : Part) (e : Endpoint) (d : Domain) → ((c : Domain) → isIn c (attachmentOf e (o .endpoints) (p .attachments)) ≡ false)
-    → outside (o .domains .start) (o .domains .end) (d .0) ≡ false → Facts o p → Facts o (enter o e d p)
+    → outside (o .domains .start) (o .domains .end) (d .0) ≡ false → all? (unbarred o e d) (p .records) ≡ true → Facts o p → Facts o (enter o e d p)
 unfolding enter
-enter-facts o p e d h r f =
+enter-facts o p e d h r u f =
     reattached o p (attachedAs e (some d) (o .endpoints) (p .attachments)) (length-attachedAs e (some d) (o .endpoints) (p .attachments))
     (all-attachedAs (inRange o) e (some d) (o .endpoints) (p .attachments) (unfold inRange in rw r) (f .attachments))
     (all-imp (recordGood o (p .attachments)) (recordGood o (attachedAs e (some d) (o .endpoints) (p .attachments))) (p .records)
     (λ x g. record-ok o _ x (exists-attachedAs (domainOf x) e (some d) (o .endpoints) (p .attachments) (h (domainOf x)) (record-exists o (p .attachments) x g)) (record-form o (p .attachments) x g))
     (f .records))
+    (all-three (p .records) (f .own) (f .clear) u)
     f
+  where
+    -- a record of domain d has its key, so that it does not overlap a region of e
+    off : (x : Mapping) → mine (o .guest) x ≡ true → unbarred o e d x ≡ true → isIn (domainOf x) (some d) ≡ true → onRegion (regionsOf e (o .endpoints) (o .regions)) x ≡ false
+    off x m b i = and-not (ofKey (keyOf (o .guest) d) x) _ (not-true _ b) (unfold ofKey in eq-eqb (x .key) (keyOf (o .guest) d) (key-of o d x m (eqb-sym (domainOf x .0) (d .0) ∙ (unfold isIn in i))))
 
-pub attached-facts : (o : Own) (p : Part) (e : Endpoint) (d : Domain) → outside (o .domains .start) (o .domains .end) (d .0) ≡ false → Facts o p → Facts o (attached o e d p)
+    all-three : (l : List Mapping) → all? (mine (o .guest)) l ≡ true → all? (offRegions o (p .attachments)) l ≡ true → all? (unbarred o e d) l ≡ true → all? (offRegions o (attachedAs e (some d) (o .endpoints) (p .attachments))) l ≡ true
+    all-three [] a b c = refl
+    all-three (x ∷ l) a b c =
+        both (offRegions o (attachedAs e (some d) (o .endpoints) (p .attachments)) x) (all? (offRegions o (attachedAs e (some d) (o .endpoints) (p .attachments))) l)
+        (reattached-clear o (p .attachments) e (some d) x (both-left (offRegions o (p .attachments) x) _ b) (off x (both-left (mine (o .guest) x) _ a) (both-left (unbarred o e d x) _ c)))
+        (all-three l (both-right (mine (o .guest) x) _ a) (both-right (offRegions o (p .attachments) x) _ b) (both-right (unbarred o e d x) _ c))
+
+pub attached-facts : (o : Own) (p : Part) (e : Endpoint) (d : Domain) → outside (o .domains .start) (o .domains .end) (d .0) ≡ false
+    → (isIn d (attachmentOf e (o .endpoints) (p .attachments)) ≡ false → all? (unbarred o e d) (p .records) ≡ true) → Facts o p → Facts o (attached o e d p)
 unfolding attached
-attached-facts o p e d r f = either-way (Facts o) (isIn d a) (λ _. f) (λ _. go a refl)
+attached-facts o p e d r u f = either-way (Facts o) (isIn d a) (λ _. f) (λ i. go (u i) a refl)
   where
     a : Attachment
     a = attachmentOf e (o .endpoints) (p .attachments)
 
-    go : (b : Attachment) → a ≡ b → Facts o (enter o e d (moveFrom o e b p))
-    go none x = unfold moveFrom in enter-facts o p e d (λ c. rw x (unfold isIn in refl)) r f
-    go (some c) x =
+    go : all? (unbarred o e d) (p .records) ≡ true → (b : Attachment) → a ≡ b → Facts o (enter o e d (moveFrom o e b p))
+    go v none x = unfold moveFrom in enter-facts o p e d (λ c. rw x (unfold isIn in refl)) r v f
+    go v (some c) x =
         unfold moveFrom in
         enter-facts o (leave o e c p) e d (λ y. unfold leave in detached y e (o .endpoints) (p .attachments)) r
+        (unfold leave without in all-keep (unbarred o e d) _ (unbarred o e d) (p .records) (λ x i g. g) v)
         (leave-facts o p e c (rw x (unfold isIn in eq-eqb (c .0) (c .0) refl)) f)
 
 -- A RECORD MAPPED
@@ -206,6 +233,7 @@ map-facts o p d r k f = settle-keeps (Facts o) (mapSteps o p d r) p (withRecords
           attachments = f .attachments;
           own = all-insert (mine (o .guest)) r (p .records) (key-mine o d r small k) (f .own);
           records = all-insert (recordGood o (p .attachments)) r (p .records) (record-ok o (p .attachments) r (rw dom ex) form) (f .records);
+          clear = all-insert (offRegions o (p .attachments)) r (p .records) (unfold offRegions in (rw dom (ap not (m .off)))) (f .clear);
           order = insert-ordered r (p .records) (form-wide o r form) (all-imp (recordGood o (p .attachments)) wide (p .records) (λ x g. record-wide o (p .attachments) x g) (f .records)) free (f .order);
           disjoint = insert-apart r (p .records) free (f .disjoint);
           share = rw (length-insert r (p .records)) (omega (arith, m .room));
@@ -216,14 +244,14 @@ pub handle-facts : (o : Own) (p : Part) (r : List ℕ) → Facts o p → Facts o
 unfolding handle handleAttach handleDetach handleUnmap
 handle-facts o p r f =
     either-way (λ (t : ℕ × Part). Facts o (t .1)) (eqb (typeOf r) ATTACH)
-    (λ _. settle-keeps (Facts o) (attachSteps o d e (attachReserved r)) p _ refl f (λ c. attached-facts o p e d (attaches o d e (attachReserved r) c .within) f))
+    (λ _. settle-keeps (Facts o) (attachSteps o p d e (attachReserved r)) p _ refl f (λ c. let a = attaches o p d e (attachReserved r) c in attached-facts o p e d (a .within) (a .free) f))
     (λ _. either-way (λ (t : ℕ × Part). Facts o (t .1)) (eqb (typeOf r) DETACH)
     (λ _. settle-keeps (Facts o) (detachSteps o p d e (attachReserved r)) p _ refl f (λ c. leave-facts o p e d (detaches o p d e (attachReserved r) c .here) f))
     (λ _. either-way (λ (t : ℕ × Part). Facts o (t .1)) (eqb (typeOf r) MAP)
     (λ _. map-facts o p d (askedFor o r) refl f)
     (λ _. either-way (λ (t : ℕ × Part). Facts o (t .1)) (eqb (typeOf r) UNMAP)
     (λ _. settle-keeps (Facts o) (unmapSteps o p d (virtStart r) (virtEnd r) (unmapReserved r)) p _ refl f (λ c. without-keeps o p _ f))
-    (λ _. f))))
+    (λ _. either-way (λ (t : ℕ × Part). Facts o (t .1)) (eqb (typeOf r) PROBE) (λ _. f) (λ _. f)))))
   where
     d : Domain
     d = domainField r
@@ -235,7 +263,7 @@ handle-facts o p r f =
 
 with-log : (o : Own) (p : Part) (l : Log) → LogFacts o l → Facts o p → Facts o (withLog l p)
 with-log o p l h f =
-    record { narrow = f .narrow; size = f .size; attachments = f .attachments; own = f .own; records = f .records; order = f .order; disjoint = f .disjoint; share = f .share; log = h }
+    record { narrow = f .narrow; size = f .size; attachments = f .attachments; own = f .own; records = f .records; clear = f .clear; order = f .order; disjoint = f .disjoint; share = f .share; log = h }
 
 blocked-facts : (o : Own) (p : Part) (why : Cause) (a : Access) → listed (a .endpoint) (o .endpoints) ≡ true → Facts o p → Facts o (blocked why a p .1)
 unfolding blocked
@@ -270,6 +298,7 @@ reset-facts o p f =
       attachments = all-none (inRange o) (length (p .attachments)) (unfold inRange in refl);
       own = refl;
       records = refl;
+      clear = refl;
       order = refl;
       disjoint = refl;
       share = omega arith;

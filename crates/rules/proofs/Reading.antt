@@ -21,7 +21,7 @@ use Rattle.rules.specs.Table.{guestOf, domainOf, before, apart}
 use Rattle.rules.specs.State.{Device, noLog, configOf, attachment, attachmentAt, faultAt, logAt, read}
 use Rattle.rules.specs.Guests.{own, part}
 use Rattle.rules.specs.Handlers.{outside, isIn, domainExists}
-use Rattle.rules.specs.Sound.{guest, recordGood, recordPasses, attachmentGood, inRange, flagGood, faultGood, faultZero, faultUsed, faultPlaceGood, sound}
+use Rattle.rules.specs.Sound.{guest, recordGood, recordPasses, offRegions, recordClear, attachmentGood, inRange, flagGood, faultGood, faultZero, faultUsed, faultPlaceGood, sound}
 use Rattle.rules.proofs.Records.{mine, before-upward}
 use Rattle.rules.proofs.Groups.{Good, good-facts, Framed, Sound, sound-facts, LogFacts, Common}
 use Rattle.rules.proofs.Parts.{record-exists}
@@ -74,6 +74,10 @@ module _ (d : Device) (h : sound d ≡ true) where
   unfolding part
   of-guest r g e k = subst (λ (n : Guest). recordGood (own config n) (pickBy (n .0) (config .owners) (read d .attachments)) r ≡ true) e k
 
+  clear-of-guest : (r : Mapping) (g : Guest) → guest (guestOf r) ≡ g → recordClear config (read d) r ≡ true → offRegions (own config g) (pickBy (g .0) (config .owners) (read d .attachments)) r ≡ true
+  unfolding part
+  clear-of-guest r g e k = subst (λ (n : Guest). offRegions (own config n) (pickBy (n .0) (config .owners) (read d .attachments)) r ≡ true) e k
+
   log-sound : (g : ℕ) → g < config .settings .guests → LogFacts (own config (guest g)) (logAt (d .state) g)
   log-sound g l =
       record {
@@ -116,6 +120,7 @@ module _ (d : Device) (h : sound d ≡ true) where
           attachments = unfold part in all-pickBy (inRange (own config g)) (g .0) (config .owners) (read d .attachments) (all-in-range g);
           order = unfold part in pairwise-keep before (mine g) (read d .records) (facts .records .order);
           records = unfold part in all-keep (recordPasses config (read d)) (mine g) (recordGood (own config g) (pickBy (g .0) (config .owners) (read d .attachments))) (read d .records) (λ r m k. of-guest r g (ap (λ n. record { 0 = n }) (eqb-true (guestOf r) (g .0) m)) k) (facts .records .passing);
+          clear = unfold part in all-keep (recordClear config (read d)) (mine g) (offRegions (own config g) (pickBy (g .0) (config .owners) (read d .attachments))) (read d .records) (λ r m k. clear-of-guest r g (ap (λ n. record { 0 = n }) (eqb-true (guestOf r) (g .0) m)) k) (facts .records .clear);
           disjoint = unfold part in pairwise-keep apart (mine g) (read d .records) (facts .records .disjoint);
           share = unfold own part configOf in facts .records .shares (g .0) (unfold configOf in l);
           log = unfold part in rw (log-read d (g .0) (unfold configOf in l)) (log-sound (g .0) l);

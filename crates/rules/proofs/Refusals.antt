@@ -1,12 +1,12 @@
 -- A call that is refused, a request whose status is not OK, and an access that goes through change nothing.
 use Prim.Native.Nat.{ℕ}
-use mathlib.Core.Path.{_≡_, refl}
+use mathlib.Core.Path.{_≡_, refl, _∙_}
 use mathlib.Core.Bool.{true, false, not}
 use mathlib.Core.List.{List, []}
 use mathlib.Core.Option.{Option, some, none}
 use native.Mathlib.Omega.{arith}
 use lib.Dec.{eqb}
-use lib.ListN.{length, getD}
+use lib.ListN.{length}
 use borrow.Author.Tests.{not-false, ne-eqb}
 use Rattle.laws.specs.Lists.{firstFailing}
 use Rattle.laws.proofs.Tests.{either-way, true-false}
@@ -20,13 +20,14 @@ use Rattle.rules.specs.Configuration.{good}
 use Rattle.rules.specs.Sizes.{tableWords}
 use Rattle.rules.specs.State.{Attachment, Device, configOf, read, zeroState}
 use Rattle.rules.specs.Guests.{Own, Part, own, part}
-use Rattle.rules.specs.Requests.{OK, ATTACH, DETACH, MAP, UNMAP, requestRefusals, typeOf}
-use Rattle.rules.specs.Handlers.{settle, handleAttach, handleDetach, handleMap, handleUnmap, handle, attachmentOf}
+use Rattle.rules.specs.Requests.{OK, ATTACH, DETACH, MAP, UNMAP, PROBE, requestRefusals, typeOf, statusIn}
+use Rattle.rules.specs.Handlers.{settle, handleAttach, handleDetach, handleMap, handleUnmap, handle, bytesBefore, attachmentOf}
 use Rattle.rules.specs.Access.{blocked, translated, findMapping, decided, access}
 use Rattle.rules.specs.Table.{keyOf}
 use Rattle.rules.specs.Sound.{sound}
 use Rattle.rules.specs.Device.{request, reset, fetch, Call, of-guest, access-by, Reply, lent, refusedWith, requested, jobRule, rule, caller, numbered, work, performed, step, SetUp, setUp}
-use Rattle.rules.specs.Claims.{changesNothing, RefusalsChangeNothing, FailuresChangeNothing, ThroughChangesNothing, RefusedSetUpIsZero}
+use Rattle.rules.specs.Claims.{changesNothing, RefusalsChangeNothing, FailuresChangeNothing, ProbesChangeNothing, ThroughChangesNothing, RefusedSetUpIsZero}
+use Rattle.rules.proofs.Chains.{status-last}
 use Rattle.rules.proofs.Unchanged.{still}
 
 -- THE STEP, BY WHAT COMES BEFORE THE RULE
@@ -93,20 +94,33 @@ handle-same o p r =
     either-way Same (eqb (typeOf r) ATTACH) (λ _. unfold handleAttach in settle-same _ p _)
     (λ _. either-way Same (eqb (typeOf r) DETACH) (λ _. unfold handleDetach in settle-same _ p _)
     (λ _. either-way Same (eqb (typeOf r) MAP) (λ _. unfold handleMap in settle-same _ p _)
-    (λ _. either-way Same (eqb (typeOf r) UNMAP) (λ _. unfold handleUnmap in settle-same _ p _) (λ _ _. refl))))
+    (λ _. either-way Same (eqb (typeOf r) UNMAP) (λ _. unfold handleUnmap in settle-same _ p _)
+    (λ _. either-way Same (eqb (typeOf r) PROBE) (λ _ _. refl) (λ _ _. refl)))))
   where
     Same : ℕ × Part → Type 0
     Same y = (y .0 ≡ OK → ⊥) → y .1 ≡ p
 
-failed-same : (o : Own) (p : Part) (r w : List ℕ) → (m : Option Refusal) → (getD (requested o p r w m .0 .buffer) 0 0 ≡ OK → ⊥) → requested o p r w m .1 ≡ p
+failed-same : (o : Own) (p : Part) (r w : List ℕ) → (m : Option Refusal) → (statusIn (requested o p r w m .0 .buffer) ≡ OK → ⊥) → requested o p r w m .1 ≡ p
 unfolding requested
-failed-same o p r w none n = handle-same o p r n
+failed-same o p r w none n = handle-same o p r (λ e. n (status-last (bytesBefore o r) (handle o p r .0) ∙ e))
 failed-same o p r w (some e) n = refl
 
 pub failures-change-nothing : FailuresChangeNothing
 failures-change-nothing d k g r w =
-    by-step (λ y. number (y .0 .answer) ≡ 0 → (getD (y .0 .buffer) 0 0 ≡ OK → ⊥) → y .1 ≡ d) d (of-guest g (request r w)) (λ e _ _. refl)
+    by-step (λ y. number (y .0 .answer) ≡ 0 → (statusIn (y .0 .buffer) ≡ OK → ⊥) → y .1 ≡ d) d (of-guest g (request r w)) (λ e _ _. refl)
     (λ h s. unfold performed work rule jobRule in (λ _ n. still d s k h _ (failed-same (own (configOf (d .state)) h) (part (configOf (d .state)) h (read d)) r w (firstFailing (requestRefusals r (length w))) n)))
+
+-- PROBES
+
+probe-same : (o : Own) (p : Part) (r w : List ℕ) → typeOf r ≡ PROBE → (m : Option Refusal) → requested o p r w m .1 ≡ p
+unfolding requested handle
+probe-same o p r w e none = rw e
+probe-same o p r w e (some a) = refl
+
+pub probes-change-nothing : ProbesChangeNothing
+probes-change-nothing d k g r w e =
+    by-step (λ y. y .1 ≡ d) d (of-guest g (request r w)) (λ _. refl)
+    (λ h s. unfold performed work rule jobRule in still d s k h _ (probe-same (own (configOf (d .state)) h) (part (configOf (d .state)) h (read d)) r w e (firstFailing (requestRefusals r (length w)))))
 
 -- ACCESSES THAT GO THROUGH
 

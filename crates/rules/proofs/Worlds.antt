@@ -216,6 +216,7 @@ module _ (c : Config) where
           attachments = all-unattached (inRange (own c g)) (g .0) (length (c .endpoints)) (c .owners) (unfold inRange in refl);
           own = refl;
           records = refl;
+          clear = refl;
           order = refl;
           disjoint = refl;
           share = omega arith;

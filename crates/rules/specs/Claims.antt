@@ -19,8 +19,8 @@ use Rattle.rules.specs.Configuration.{Config, share, windowFirst, window
 use Rattle.rules.specs.Table.{keyOf, mapping}
 use Rattle.rules.specs.State.{Device, configOf, read, zeroState, Lengths}
 use Rattle.rules.specs.Guests.{Part, own, part}
-use Rattle.rules.specs.Answers.{number, usedLength, addressOf}
-use Rattle.rules.specs.Requests.{OK, NOMEM, typeOf, readableLength, writableLength}
+use Rattle.rules.specs.Answers.{number, addressOf}
+use Rattle.rules.specs.Requests.{OK, NOMEM, PROBE, typeOf, readableLength, writableLength, statusIn}
 use Rattle.rules.specs.Handlers.{attachmentOf}
 use Rattle.rules.specs.Access.{hasFlag, permits}
 use Rattle.rules.specs.Sound.{sound, guest, partTests, commonTests}
@@ -140,8 +140,8 @@ WheneverPermitted =
 abbrev pub NoMemOnlyByShare : Type 0
 NoMemOnlyByShare =
     (d : Device) → sound d ≡ true
-    → (g : Guest) (readable writable : List ℕ) → usedLength (step d (of-guest g (request readable writable)) .0 .answer) ≡ 4
-    → getD (step d (of-guest g (request readable writable)) .0 .buffer) 0 0 ≡ NOMEM
+    → (g : Guest) (readable writable : List ℕ) → number (step d (of-guest g (request readable writable)) .0 .answer) ≡ 0
+    → statusIn (step d (of-guest g (request readable writable)) .0 .buffer) ≡ NOMEM
     → share (configOf (d .state) .settings) (g .0) ≤ length (holds (configOf (d .state)) g d .records)
 
 -- whenever a guest holds less than its share there is room in the table
@@ -167,7 +167,14 @@ abbrev pub FailuresChangeNothing : Type 0
 FailuresChangeNothing =
     (d : Device) → Lengths (d .state)
     → (g : Guest) (readable writable : List ℕ) → number (step d (of-guest g (request readable writable)) .0 .answer) ≡ 0
-    → (getD (step d (of-guest g (request readable writable)) .0 .buffer) 0 0 ≡ OK → ⊥)
+    → (statusIn (step d (of-guest g (request readable writable)) .0 .buffer) ≡ OK → ⊥)
+    → step d (of-guest g (request readable writable)) .1 ≡ d
+
+-- a PROBE, of any status
+abbrev pub ProbesChangeNothing : Type 0
+ProbesChangeNothing =
+    (d : Device) → Lengths (d .state)
+    → (g : Guest) (readable writable : List ℕ) → typeOf readable ≡ PROBE
     → step d (of-guest g (request readable writable)) .1 ≡ d
 
 -- an access that goes through
@@ -201,8 +208,8 @@ RequestNumbers =
     ∷ (not (sound d), 2)
     -- "readable part below 4 bytes"
     ∷ (ltb (length readable) 4, 4)
-    -- "request type not 1 to 4"
-    ∷ (ltb (typeOf readable) 1 || ltb 4 (typeOf readable), 3)
+    -- "types not 1 to 5"
+    ∷ (ltb (typeOf readable) 1 || ltb 5 (typeOf readable), 3)
     -- "a part's length not the type's"
     ∷ (not (eqb (length readable) (readableLength (typeOf readable))) || not (eqb (length writable) (writableLength (typeOf readable))), 4)
     ∷ [])

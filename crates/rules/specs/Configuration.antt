@@ -31,9 +31,13 @@ windowFirst s g = getD (s .firsts) g 0
 abbrev pub windowLast : Settings → ℕ → ℕ
 windowLast s g = getD (s .lasts) g 0
 
+-- the addresses from a to b and those from c to d have one in common
+abbrev pub rangesMeet : ℕ → ℕ → ℕ → ℕ → Bool
+rangesMeet a b c d = leb a d && leb c b
+
 -- the windows of guests g and h have an address in common
 abbrev pub shareAddress : Settings → ℕ → ℕ → Bool
-shareAddress s g h = leb (windowFirst s g) (windowLast s h) && leb (windowFirst s h) (windowLast s g)
+shareAddress s g h = rangesMeet (windowFirst s g) (windowLast s g) (windowFirst s h) (windowLast s h)
 
 -- "Configuration is good when:" each of these tests passes
 abbrev pub settingsTests : Settings → List Bool
@@ -102,9 +106,9 @@ regionUsed n words k = ltb (k / endpointRegionWords) n && ltb (k % endpointRegio
 abbrev pub MSI : ℕ
 MSI = 1
 
--- two regions have an address in common
-abbrev pub regionsMeet : Region → Region → Bool
-regionsMeet a b = leb (a .start) (b .end) && leb (b .start) (a .end)
+-- the addresses from a to b "overlap" the region
+abbrev pub meets : ℕ → ℕ → Region → Bool
+meets a b q = rangesMeet a b (q .start) (q .end)
 
 -- the tests of an endpoint's regions
 abbrev pub regionTests : List Region → List Bool
@@ -117,7 +121,7 @@ regionTests l =
     -- "at most one of them MSI"
     ∷ pairwise (λ a b. not (eqb (a .subtype) MSI && eqb (b .subtype) MSI)) l
     -- "none overlapping"
-    ∷ pairwise (λ a b. not (regionsMeet a b)) l
+    ∷ pairwise (λ a b. not (meets (a .start) (a .end) b)) l
     ∷ []
 
 -- the regions of n endpoints are good, in as many words as they have places for

@@ -1,7 +1,7 @@
 -- Calls on the device: what each is answered and leaves, set-up, and whose call it is.
 use Prim.Native.Nat.{ℕ}
 use mathlib.Core.Bool.{Bool, true, false, cond, not}
-use mathlib.Core.List.{List, [], _∷_}
+use mathlib.Core.List.{List, [], _∷_, _++_}
 use mathlib.Core.Option.{Option, some, none}
 use lib.Dec.{ltb, eqb}
 use lib.ListN.{length, replicate}
@@ -13,12 +13,12 @@ use Rattle.rules.specs.declared.Answer.{Answer}
 use Rattle.rules.specs.declared.Answer.the-variants.{Done, Served, Fetched, Refused}
 use Rattle.rules.specs.declared.Refusal.{Refusal}
 use Rattle.rules.specs.declared.Refusal.the-variants.{NoSuchGuest, Unsound, BadConfiguration, UnknownEndpoint}
-use Rattle.rules.specs.Sizes.{tableWords, statusSize}
+use Rattle.rules.specs.Sizes.{tableWords}
 use Rattle.rules.specs.Configuration.{Config, good}
 use Rattle.rules.specs.State.{World, Device, configOf, read, write, stateOf, start, zeroState}
 use Rattle.rules.specs.Guests.{Own, Part, own, part, replace, withLog}
-use Rattle.rules.specs.Requests.{requestRefusals}
-use Rattle.rules.specs.Handlers.{handle}
+use Rattle.rules.specs.Requests.{writableLength, typeOf, requestRefusals}
+use Rattle.rules.specs.Handlers.{handle, bytesBefore}
 use Rattle.rules.specs.Access.{access, afterReset, fetchable, fetchedInto, fetchedFrom}
 use Rattle.rules.specs.Sound.{sound}
 
@@ -54,13 +54,14 @@ refusedWith e x = record { answer = Refused e; buffer = lent x }
 
 -- RULES OF ONE GUEST
 
--- "Writable part: exactly 4 bytes, status then three zeros; used length 4."
-abbrev pub served : ℕ × Part → Reply × Part
-served r = (record { answer = Served statusSize; buffer = r .0 ∷ 0 ∷ 0 ∷ 0 ∷ [] }, r .1)
+-- "Writable part: exactly 4 bytes, status then three zeros; used length 4." Of a PROBE "128 bytes of properties and a 4-byte
+-- tail", "Used length is 132"
+abbrev pub served : Own → List ℕ → ℕ × Part → Reply × Part
+served o q r = (record { answer = Served (writableLength (typeOf q)); buffer = bytesBefore o q ++ (r .0 ∷ 0 ∷ 0 ∷ 0 ∷ []) }, r .1)
 
 -- the request, unless a refusal comes first
 unfoldable pub requested : Own → Part → List ℕ → List ℕ → Option Refusal → Reply × Part
-requested o p r w none = served (handle o p r)
+requested o p r w none = served o r (handle o p r)
 requested o p r w (some e) = (record { answer = Refused e; buffer = w }, p)
 
 abbrev pub accessReply : Answer × Part → Reply × Part

@@ -16,9 +16,9 @@ use Rattle.rules.specs.Table.{tableOf, before, overlap}
 use Rattle.rules.specs.State.{Device, configOf, read, write, stateOf, trimmed, trimmedRegions, start, zeroState}
 use Rattle.rules.specs.Guests.{own, part, replace, withRecordsOf}
 use Rattle.rules.specs.Requests.{OK, RANGE, NOMEM, ATTACH, MAP, UNMAP}
-use Rattle.rules.specs.Handlers.{settle, outside, isIn, domainExists, listed, ofKey, without, leave, enter, moveFrom, attached, handleAttach, handleDetach, granularity, formSteps, handleMap, inside, straddles, handleUnmap, handle}
+use Rattle.rules.specs.Handlers.{settle, outside, isIn, domainExists, listed, ofKey, without, leave, enter, moveFrom, attached, onRegion, handleAttach, handleDetach, granularity, formSteps, handleMap, inside, straddles, handleUnmap, handle, bytesBefore}
 use Rattle.rules.specs.Access.{afterReset}
-use Rattle.rules.specs.Sound.{guest, recordGood, attachmentGood, faultGood, zeroFrom, faultPlaceGood, sound}
+use Rattle.rules.specs.Sound.{guest, recordGood, offRegions, attachmentGood, faultGood, zeroFrom, faultPlaceGood, sound}
 use Rattle.rules.specs.Device.{request, Call, of-guest, Reply, requested, jobRule, rule, caller, work, performed, step, setUp}
 
 -- one guest with a share of 2 and endpoint 8; every address and every domain number is allowed
@@ -108,5 +108,5 @@ wanted e = (L.map worked-request (e .statuses), e .held)
 
 -- P1 to P10
 pub worked-examples : L.map shown examples ≡ L.map wanted examples
-unfolding shown wanted examples config asks attaches maps unmaps ready told worked-request addressesOf below sumBelow tabFrom trailingZeros goodSettings goodLists regionsAt regionUsed goodRegions good tableOf before overlap configOf read write stateOf trimmed trimmedRegions start zeroState own part replace withRecordsOf settle outside isIn domainExists listed ofKey without leave enter moveFrom attached handleAttach handleDetach granularity formSteps handleMap inside straddles handleUnmap handle afterReset recordGood attachmentGood faultGood zeroFrom faultPlaceGood sound requested jobRule rule caller work performed step setUp
+unfolding shown wanted examples config asks attaches maps unmaps ready told worked-request addressesOf below sumBelow tabFrom trailingZeros goodSettings goodLists regionsAt regionUsed goodRegions good tableOf before overlap configOf read write stateOf trimmed trimmedRegions start zeroState own part replace withRecordsOf settle outside isIn domainExists listed ofKey without leave enter moveFrom attached onRegion handleAttach handleDetach granularity formSteps handleMap inside straddles handleUnmap handle bytesBefore afterReset recordGood offRegions attachmentGood faultGood zeroFrom faultPlaceGood sound requested jobRule rule caller work performed step setUp
 worked-examples = refl

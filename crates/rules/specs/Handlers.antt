@@ -5,15 +5,19 @@ use mathlib.Core.List.{List, [], _∷_, _++_}
 use mathlib.Core.Option.{Option, some, none}
 use lib.Dec.{leb, ltb, eqb}
 use lib.Count.{trailingZeros}
-use lib.ListN.{length}
-use Rattle.laws.specs.Lists.{any?, keep, firstFailing}
+use lib.ListN.{length, replicate}
+use Rattle.laws.specs.Lists.{any?, keep, firstFailing, pad}
+use Rattle.laws.specs.Bytes.{leBytes}
 use Rattle.rules.specs.declared.Endpoint.{Endpoint}
 use Rattle.rules.specs.declared.Domain.{Domain}
 use Rattle.rules.specs.declared.Mapping.{Mapping}
+use Rattle.rules.specs.declared.Region.{Region}
+use Rattle.rules.specs.Sizes.{propertiesSize}
+use Rattle.rules.specs.Configuration.{meets}
 use Rattle.rules.specs.Table.{keyOf, mapping, overlap, insertMapping}
 use Rattle.rules.specs.State.{Attachment}
 use Rattle.rules.specs.Guests.{Own, Part, withAttachments, withRecords}
-use Rattle.rules.specs.Requests.{OK, DEVERR, INVAL, RANGE, NOENT, FAULT, NOMEM, ATTACH, DETACH, MAP, UNMAP, typeOf, domainField, endpointField, attachReserved, virtStart, virtEnd, physStart, mapFlags, unmapReserved}
+use Rattle.rules.specs.Requests.{OK, UNSUPP, DEVERR, INVAL, RANGE, NOENT, FAULT, NOMEM, ATTACH, DETACH, MAP, UNMAP, PROBE, typeOf, domainField, endpointField, attachReserved, virtStart, virtEnd, physStart, mapFlags, unmapReserved, probeEndpoint}
 
 -- STEPS AND STATUSES
 
@@ -94,30 +98,52 @@ attached o e d p =
     cond (isIn d (attachmentOf e (o .endpoints) (p .attachments))) p
     (enter o e d (moveFrom o e (attachmentOf e (o .endpoints) (p .attachments)) p))
 
+-- RESERVED REGIONS
+
+-- the regions of endpoint e, where es are the endpoints with the regions rs
+abbrev pub regionsOf : Endpoint → List ℕ → List (List Region) → List Region
+regionsOf e [] rs = []
+regionsOf e (k ∷ es) [] = []
+regionsOf e (k ∷ es) (q ∷ rs) = cond (eqb k (e .0)) q (regionsOf e es rs)
+
+-- the regions "of any endpoint in the domain" d, where l are the attachments of the endpoints with the regions rs
+abbrev pub regionsIn : Domain → List Attachment → List (List Region) → List Region
+regionsIn d [] rs = []
+regionsIn d (a ∷ l) [] = []
+regionsIn d (a ∷ l) (q ∷ rs) = cond (isIn d a) (q ++ regionsIn d l rs) (regionsIn d l rs)
+
+-- the record overlaps one of the regions
+unfoldable pub onRegion : List Region → Mapping → Bool
+onRegion l r = any? (meets (r .start) (r .end)) l
+
 -- ATTACH
 
 -- ATTACH's chain of steps, over what their tests give
-abbrev pub attachChain : (reserved unlisted beyond : Bool) → Steps
-attachChain reserved unlisted beyond =
+abbrev pub attachChain : (reserved unlisted beyond barred : Bool) → Steps
+attachChain reserved unlisted beyond barred =
     -- "reserved not zero, INVAL"
     (reserved, INVAL)
     -- "Endpoint not listed or not this guest's, NOENT"
     ∷ (unlisted, NOENT)
     -- "Domain outside the range, RANGE"
     ∷ (beyond, RANGE)
+    -- "ATTACH to a domain the endpoint isn't in [..] whose records overlap the endpoint's regions is UNSUPP, after the RANGE step"
+    ∷ (barred, UNSUPP)
     ∷ []
 
 -- the tests of ATTACH, in order
-abbrev pub attachSteps : Own → Domain → Endpoint → ℕ → Steps
-attachSteps o d e reserved =
+abbrev pub attachSteps : Own → Part → Domain → Endpoint → ℕ → Steps
+attachSteps o p d e reserved =
     attachChain
     (not (eqb reserved 0))
     (not (listed e (o .endpoints)))
     (outside (o .domains .start) (o .domains .end) (d .0))
+    (not (isIn d (attachmentOf e (o .endpoints) (p .attachments)))
+    && any? (λ r. ofKey (keyOf (o .guest) d) r && onRegion (regionsOf e (o .endpoints) (o .regions)) r) (p .records))
 
 -- "Then attached, OK."
 unfoldable pub handleAttach : Own → Part → Domain → Endpoint → ℕ → ℕ × Part
-handleAttach o p d e reserved = settle (statusOf (attachSteps o d e reserved)) p (attached o e d p)
+handleAttach o p d e reserved = settle (statusOf (attachSteps o p d e reserved)) p (attached o e d p)
 
 -- DETACH
 
@@ -187,11 +213,13 @@ abbrev pub recordSteps : Own → List Attachment → Domain → Mapping → Step
 recordSteps o l d r = recordChain (not (domainExists d l)) (formSteps o r)
 
 -- MAP's chain of steps, where form is that of steps 2 to 6
-abbrev pub mapChain : (missing : Bool) (form : Steps) (meets full : Bool) → Steps
-mapChain missing form meets full =
+abbrev pub mapChain : (missing : Bool) (form : Steps) (taken barred full : Bool) → Steps
+mapChain missing form taken barred full =
     recordChain missing form
     -- "7. overlaps a record of this domain: INVAL"
-    ++ (meets, INVAL)
+    ++ (taken, INVAL)
+    -- "a step between 7 and 8: overlapping a region of any endpoint in the domain is INVAL"
+    ∷ (barred, INVAL)
     -- "8. guest already holds its share: NOMEM"
     ∷ (full, NOMEM)
     ∷ []
@@ -203,6 +231,7 @@ mapSteps o p d r =
     (not (domainExists d (p .attachments)))
     (formSteps o r)
     (any? (overlap r) (p .records))
+    (onRegion (regionsIn d (p .attachments) (o .regions)) r)
     (leb (o .share) (length (p .records)))
 
 -- "Else recorded, OK."
@@ -246,6 +275,28 @@ unfoldable pub handleUnmap : Own → Part → Domain → ℕ → ℕ → ℕ →
 handleUnmap o p d a b reserved =
     settle (statusOf (unmapSteps o p d a b reserved)) p (withRecords (without (inside (keyOf (o .guest) d) a b) (p .records)) p)
 
+-- PROBE
+
+-- the step of PROBE
+abbrev pub probeSteps : Own → Endpoint → Steps
+probeSteps o e =
+    -- "NOENT (endpoint as in ATTACH)"
+    (not (listed e (o .endpoints)), NOENT)
+    ∷ []
+
+-- "a property of type 1, length 20: subtype (0 reserved, 1 MSI), three zeros, start, end"
+unfoldable pub propertyBytes : Region → List ℕ
+propertyBytes q = leBytes 2 1 ++ (leBytes 2 20 ++ (q .subtype ∷ 0 ∷ 0 ∷ 0 ∷ leBytes 8 (q .start) ++ leBytes 8 (q .end)))
+
+-- "Each, in set-up order, is a property"
+abbrev pub propertiesOf : List Region → List ℕ
+propertiesOf [] = []
+propertiesOf (q ∷ l) = propertyBytes q ++ propertiesOf l
+
+-- "Property bytes left over are zero; with NOENT [..] all 128 are written zero."
+unfoldable pub probed : Own → Endpoint → List ℕ
+probed o e = cond (listed e (o .endpoints)) (pad propertiesSize 0 (propertiesOf (regionsOf e (o .endpoints) (o .regions)))) (replicate propertiesSize 0)
+
 -- BY TYPE
 
 -- the record that a MAP request asks for
@@ -259,4 +310,9 @@ handle o p r =
     (cond (eqb (typeOf r) DETACH) (handleDetach o p (domainField r) (endpointField r) (attachReserved r))
     (cond (eqb (typeOf r) MAP) (handleMap o p (domainField r) (askedFor o r))
     (cond (eqb (typeOf r) UNMAP) (handleUnmap o p (domainField r) (virtStart r) (virtEnd r) (unmapReserved r))
-    (DEVERR, p))))
+    (cond (eqb (typeOf r) PROBE) (statusOf (probeSteps o (probeEndpoint r)), p)
+    (DEVERR, p)))))
+
+-- the bytes that a request writes before its status
+unfoldable pub bytesBefore : Own → List ℕ → List ℕ
+bytesBefore o r = cond (eqb (typeOf r) PROBE) (probed o (probeEndpoint r)) []

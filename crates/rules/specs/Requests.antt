@@ -1,11 +1,11 @@
 -- "Request layouts", and which requests are not handled.
-use Prim.Native.Nat.{ℕ}
+use Prim.Native.Nat.{ℕ, _-_}
 use mathlib.Core.Bool.{Bool, cond, not, _&&_}
 use mathlib.Core.List.{List, [], _∷_}
 use lib.Dec.{leb, ltb, eqb}
 use lib.ListN.{length, getD}
 use Rattle.laws.specs.Bytes.{leField}
-use Rattle.rules.specs.Sizes.{statusSize}
+use Rattle.rules.specs.Sizes.{statusSize, probeSize}
 use Rattle.rules.specs.declared.Endpoint.{Endpoint}
 use Rattle.rules.specs.declared.Domain.{Domain}
 use Rattle.rules.specs.declared.Refusal.{Refusal}
@@ -39,7 +39,7 @@ FAULT = 7
 abbrev pub NOMEM : ℕ
 NOMEM = 8
 
--- the types: "1 ATTACH", "2 DETACH", "3 MAP", "4 UNMAP"
+-- the types: "1 ATTACH", "2 DETACH", "3 MAP", "4 UNMAP", and "type 5", PROBE
 abbrev pub ATTACH : ℕ
 ATTACH = 1
 
@@ -52,12 +52,19 @@ MAP = 3
 abbrev pub UNMAP : ℕ
 UNMAP = 4
 
--- "asks for these two lengths by type byte [..]; any other type gets 0 and 0"
+abbrev pub PROBE : ℕ
+PROBE = 5
+
+-- "asks for these two lengths by type byte [..]; any other type gets 0 and 0"; "the length query gives 72 and 132"
 abbrev pub readableLength : ℕ → ℕ
-readableLength t = cond (eqb t ATTACH) 20 (cond (eqb t DETACH) 20 (cond (eqb t MAP) 36 (cond (eqb t UNMAP) 28 0)))
+readableLength t = cond (eqb t ATTACH) 20 (cond (eqb t DETACH) 20 (cond (eqb t MAP) 36 (cond (eqb t UNMAP) 28 (cond (eqb t PROBE) 72 0))))
 
 abbrev pub writableLength : ℕ → ℕ
-writableLength t = cond (leb ATTACH t && leb t UNMAP) statusSize 0
+writableLength t = cond (leb ATTACH t && leb t UNMAP) statusSize (cond (eqb t PROBE) probeSize 0)
+
+-- the status in a writable part as left: the first of its last four bytes
+abbrev pub statusIn : List ℕ → ℕ
+statusIn writable = getD writable (length writable - statusSize) 0
 
 -- "Head: type byte, three bytes ignored." The fields after it, by the bytes' places.
 abbrev pub typeOf : List ℕ → ℕ
@@ -89,13 +96,17 @@ mapFlags r = leField 32 4 r
 abbrev pub unmapReserved : List ℕ → ℕ
 unmapReserved r = leField 24 4 r
 
+-- PROBE: "head, endpoint 4, 64 ignored"
+abbrev pub probeEndpoint : List ℕ → Endpoint
+probeEndpoint r = record { 0 = leField 4 4 r }
+
 -- "Requests: 1, 2, 4 (below 4 bytes), 3, 4 (lengths)": the last three, of the readable part r and a writable part of n bytes
 abbrev pub requestRefusals : List ℕ → ℕ → List (Bool × Refusal)
 requestRefusals r n =
     -- "readable part below 4 bytes"
     (ltb (length r) 4, WrongLength)
-    -- "request type not 1 to 4"
-    ∷ (not (leb ATTACH (typeOf r) && leb (typeOf r) UNMAP), UnknownType)
+    -- "refusal 3 is for types not 1 to 5"
+    ∷ (not (leb ATTACH (typeOf r) && leb (typeOf r) PROBE), UnknownType)
     -- "a part's length not the type's"
     ∷ (not (eqb (length r) (readableLength (typeOf r))), WrongLength)
     ∷ (not (eqb n (writableLength (typeOf r))), WrongLength)

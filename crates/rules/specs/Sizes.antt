@@ -1,5 +1,5 @@
 -- The sizes of document 01, each named once for the definitions, as src/sizes.rt names them for the code.
-use Prim.Native.Nat.{ℕ, suc, _-_, _*_, _^_}
+use Prim.Native.Nat.{ℕ, suc, _+_, _-_, _*_, _^_}
 
 -- "one to four guests"
 abbrev pub maxGuests : ℕ
@@ -55,6 +55,18 @@ faultSize = 24
 -- "Writable part: exactly 4 bytes, status then three zeros"
 abbrev pub statusSize : ℕ
 statusSize = 4
+
+-- a property: type 2, length 2, and the 20 bytes of "type 1, length 20"
+abbrev pub propertySize : ℕ
+propertySize = 24
+
+-- "writable 128 bytes of properties and a 4-byte tail"
+abbrev pub propertiesSize : ℕ
+propertiesSize = 128
+
+-- "Used length is 132"
+abbrev pub probeSize : ℕ
+probeSize = propertiesSize + statusSize
 
 -- the 2^32 of "guest × 2^32 + domain"
 abbrev pub domainSpan : ℕ

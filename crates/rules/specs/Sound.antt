@@ -18,7 +18,7 @@ use Rattle.rules.specs.Configuration.{Config, share, endpointRegions, us
 use Rattle.rules.specs.Table.{guestOf, domainOf, before, apart}
 use Rattle.rules.specs.State.{Attachment, World, Device, configOf, read, faultAt, domainAt}
 use Rattle.rules.specs.Guests.{Own, Part, own, part, recordsOf}
-use Rattle.rules.specs.Handlers.{outside, listed, recordSteps}
+use Rattle.rules.specs.Handlers.{outside, listed, regionsIn, onRegion, recordSteps}
 
 abbrev pub guest : ℕ → Guest
 guest g = record { 0 = g }
@@ -110,9 +110,17 @@ logTests s =
 unfoldable pub recordGood : Own → List Attachment → Mapping → Bool
 recordGood o l r = passes (firstFailing (recordSteps o l (domainOf r) r))
 
+-- "Soundness gains the same rule": the record overlaps no region of an endpoint in its domain, where l are its guest's attachments
+unfoldable pub offRegions : Own → List Attachment → Mapping → Bool
+offRegions o l r = not (onRegion (regionsIn (domainOf r) l (o .regions)) r)
+
 -- a record would pass steps 1 to 6 of MAP for the guest and the domain that its first word names
 abbrev pub recordPasses : Config → World → Mapping → Bool
 recordPasses c w r = recordGood (own c (guest (guestOf r))) (part c (guest (guestOf r)) w .attachments) r
+
+-- it overlaps no region of an endpoint in that domain
+abbrev pub recordClear : Config → World → Mapping → Bool
+recordClear c w r = offRegions (own c (guest (guestOf r))) (part c (guest (guestOf r)) w .attachments) r
 
 -- "no guest holds more than its share"
 abbrev pub sharesKept : Settings → List Mapping → Bool
@@ -125,6 +133,8 @@ recordTests d =
     ∷ zeroFrom (recordWords * d .state .live) (d .table)
     -- "every record would pass steps 1 to 6 of MAP"
     ∷ all? (recordPasses (configOf (d .state)) (read d)) (read d .records)
+    -- "overlapping a region of any endpoint in the domain"
+    ∷ all? (recordClear (configOf (d .state)) (read d)) (read d .records)
     -- "no two records of one guest and domain overlap"
     ∷ pairwise apart (read d .records)
     -- "no guest holds more than its share"
@@ -151,6 +161,8 @@ partTests o p =
     ∷ pairwise before (p .records)
     -- "every record would pass steps 1 to 6 of MAP"
     ∷ all? (recordGood o (p .attachments)) (p .records)
+    -- "overlapping a region of any endpoint in the domain"
+    ∷ all? (offRegions o (p .attachments)) (p .records)
     -- "no two records of one guest and domain overlap"
     ∷ pairwise apart (p .records)
     -- "no guest holds more than its share"

@@ -3,12 +3,13 @@
 use Prim.Native.Nat.{ℕ, _+_, _-_, _*_, _/_, _%_}
 use mathlib.Core.Bool.{Bool, cond, not, _&&_, _||_}
 use mathlib.Core.List.{List, [], _∷_, _++_}
-use lib.Dec.{leb, ltb, eqb}
+use lib.Dec.{ltb, eqb}
 use lib.ListN.{length, replicate}
 use Rattle.rules.specs.declared.Guest.{Guest}
 use Rattle.rules.specs.declared.Domain.{Domain}
 use Rattle.rules.specs.declared.Mapping.{Mapping}
 use Rattle.rules.specs.Sizes.{recordWords, tableWords, domainSpan}
+use Rattle.rules.specs.Configuration.{rangesMeet}
 
 -- the record that five words hold
 abbrev pub mapping : ℕ → ℕ → ℕ → ℕ → ℕ → Mapping
@@ -49,7 +50,7 @@ before r s = ltb (r .key) (s .key) || (eqb (r .key) (s .key) && ltb (r .start) (
 
 -- two records of one guest and domain have an address in common
 unfoldable pub overlap : Mapping → Mapping → Bool
-overlap r s = eqb (r .key) (s .key) && (leb (r .start) (s .end) && leb (s .start) (r .end))
+overlap r s = eqb (r .key) (s .key) && rangesMeet (r .start) (r .end) (s .start) (s .end)
 
 -- two records that have none
 abbrev pub apart : Mapping → Mapping → Bool

@@ -42,6 +42,15 @@ pub const FAULT_SIZE: usize = 24;
 // The bytes of a request's status: the status and three zeros.
 pub const STATUS_SIZE: usize = 4;
 
+// The bytes of a property: type, length, subtype, three zeros, start, end.
+pub const PROPERTY_SIZE: usize = 24;
+
+// The bytes of properties that PROBE writes.
+pub const PROPERTIES_SIZE: usize = 128;
+
+// The bytes of PROBE's writable part: the properties, then the status.
+pub const PROBE_SIZE: usize = PROPERTIES_SIZE + STATUS_SIZE;
+
 // What the guest's number is multiplied by in a record's first word.
 pub const DOMAIN_SPAN: u64 = 4294967296;
 
