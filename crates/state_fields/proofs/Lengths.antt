@@ -5,7 +5,7 @@ use mir.Val.{Val}
 use denote.Laws.{Is}
 use denote.Struct.Declared.{row}
 use borrow.Author.Needs.{length-unmapped}
-use Rattle.rules.specs.Sizes.{maxGuests, maxEndpoints, faultPlaces}
+use Rattle.rules.specs.Sizes.{maxGuests, maxEndpoints, regionPlaces, faultPlaces}
 use Rattle.rules.specs.declared.State.{State}
 use Rattle.rules.proofs.State as declared-state
 use Rattle.rules.specs.State.{Lengths}
@@ -24,10 +24,11 @@ lengths-hold s vs h =
       owners = length-unmapped ℕ (s .owners) maxEndpoints (w .1 .0 .1 .0 .1);
       attached = length-unmapped ℕ (s .attached) maxEndpoints (x .0 .1 .0 .1);
       domains = length-unmapped ℕ (s .domains) maxEndpoints (x .1 .0 .1 .0 .1);
-      logged = length-unmapped ℕ (s .logged) maxGuests (x .1 .1 .1 .0 .1 .0 .1);
-      lost = length-unmapped ℕ (s .lost) maxGuests (x .1 .1 .1 .1 .0 .1 .0 .1);
-      reasons = length-unmapped ℕ (s .reasons) faultPlaces (x .1 .1 .1 .1 .1 .0 .1 .0 .1);
-      flags = length-unmapped ℕ (s .flags) faultPlaces (x .1 .1 .1 .1 .1 .1 .0 .1 .0 .1);
-      sources = length-unmapped ℕ (s .sources) faultPlaces (x .1 .1 .1 .1 .1 .1 .1 .0 .1 .0 .1);
-      addresses = length-unmapped ℕ (s .addresses) faultPlaces (x .1 .1 .1 .1 .1 .1 .1 .1 .0 .1 .0 .1);
+      regions = length-unmapped ℕ (s .regions) regionPlaces (x .1 .1 .0 .1 .0 .1);
+      logged = length-unmapped ℕ (s .logged) maxGuests (x .1 .1 .1 .1 .0 .1 .0 .1);
+      lost = length-unmapped ℕ (s .lost) maxGuests (x .1 .1 .1 .1 .1 .0 .1 .0 .1);
+      reasons = length-unmapped ℕ (s .reasons) faultPlaces (x .1 .1 .1 .1 .1 .1 .0 .1 .0 .1);
+      flags = length-unmapped ℕ (s .flags) faultPlaces (x .1 .1 .1 .1 .1 .1 .1 .0 .1 .0 .1);
+      sources = length-unmapped ℕ (s .sources) faultPlaces (x .1 .1 .1 .1 .1 .1 .1 .1 .0 .1 .0 .1);
+      addresses = length-unmapped ℕ (s .addresses) faultPlaces (x .1 .1 .1 .1 .1 .1 .1 .1 .1 .0 .1 .0 .1);
     }

@@ -12,8 +12,8 @@ settingsWith guests shares firsts lasts mask input domains =
     record { guests = guests; shares = shares; firsts = firsts; lasts = lasts; mask = mask; input = input; domains = domains }
 
 -- the state of these pieces
-abbrev pub stateWith : Settings → ℕ → ℕ → List ℕ → List ℕ → List ℕ → List ℕ → List ℕ → List ℕ → List ℕ → List ℕ → List ℕ → List ℕ → State
-stateWith settings listed live endpoints owners attached domains logged lost reasons flags sources addresses =
+abbrev pub stateWith : Settings → ℕ → ℕ → List ℕ → List ℕ → List ℕ → List ℕ → List ℕ → List ℕ → List ℕ → List ℕ → List ℕ → List ℕ → List ℕ → State
+stateWith settings listed live endpoints owners attached domains regions logged lost reasons flags sources addresses =
     record {
       settings = settings;
       listed = listed;
@@ -21,6 +21,7 @@ stateWith settings listed live endpoints owners attached domains logged lost rea
       owners = owners;
       attached = attached;
       domains = domains;
+      regions = regions;
       live = live;
       logged = logged;
       lost = lost;
