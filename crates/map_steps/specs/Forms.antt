@@ -13,7 +13,7 @@ use Rattle.rules.specs.Sound.{guest, passes}
 -- a guest's limits alone: what steps 2 to 6 of MAP look at
 abbrev pub limits : ℕ → InputRange → ℕ → ℕ → Own
 limits mask input first last =
-    record { guest = guest 0; share = 0; first = first; last = last; mask = mask; input = input; domains = record { start = 0; end = 0 }; endpoints = [] }
+    record { guest = guest 0; share = 0; first = first; last = last; mask = mask; input = input; domains = record { start = 0; end = 0 }; endpoints = []; regions = [] }
 
 -- steps 2 to 6 of MAP pass, within these limits
 unfoldable pub formGood : ℕ → InputRange → ℕ → ℕ → Mapping → Bool

@@ -129,10 +129,10 @@ module _ (d : Device) (k : Common d) (parts : (g : ℕ) → g < d .state .settin
           order = pairwise-guests n before before-guest (read d .records) (k .guests) (k .upward) (λ g l. unfold part in facts g l .order);
           zeros = k .zeros;
           passing = records-pass;
-          clear = records-clear;
           disjoint = pairwise-guests n apart apart-guests (read d .records) (k .guests) (k .upward) (λ g l. unfold part in facts g l .disjoint);
           shares = λ g l. unfold own part configOf in facts g l .share;
         };
+        reserved = record { zeros = k .regions; clear = records-clear };
       })
 
 pub sound-by-parts : SoundByParts

@@ -1,8 +1,8 @@
 -- The tests of a good configuration and of soundness, group by group, as named facts, and back.
 use Prim.Native.Nat.{ℕ, _*_, _^_, _≤_, _<_}
 use mathlib.Core.Path.{_≡_}
-use mathlib.Core.Bool.{true, not, _&&_, _||_}
-use mathlib.Core.List.{[], _∷_}
+use mathlib.Core.Bool.{Bool, true, not, _&&_, _||_}
+use mathlib.Core.List.{List, [], _∷_}
 use native.Mathlib.Omega.{arith}
 use lib.Dec.{leb, ltb, eqb}
 use lib.ListN.{length, getD}
@@ -16,7 +16,7 @@ use Rattle.rules.specs.Configuration.{Config, share, windowFirst, window
 use Rattle.rules.specs.Table.{guestOf, before, apart}
 use Rattle.rules.specs.State.{Log, Device, configOf, domainAt, read, faultAt}
 use Rattle.rules.specs.Guests.{Own, Part, recordsOf}
-use Rattle.rules.specs.Sound.{guest, recordGood, recordPasses, offRegions, recordClear, attachmentGood, inRange, flagGood, faultGood, faultZero, faultUsed, faultPlaceGood, zeroFrom, frameTests, unusedTests, placeTests, logTests, recordTests, sound, partTests, commonTests}
+use Rattle.rules.specs.Sound.{guest, recordGood, recordPasses, offRegions, recordClear, attachmentGood, inRange, flagGood, faultGood, faultZero, faultUsed, faultPlaceGood, zeroFrom, frameTests, unusedTests, placeTests, logTests, recordTests, regionZeros, reservedTests, sound, partTests, commonTests}
 use Rattle.rules.proofs.Records.{mine}
 
 -- A GOOD CONFIGURATION
@@ -124,18 +124,16 @@ pub record Unused (s : State) : Type 0 where
   pub owners : zeroFrom (s .listed) (s .owners) ≡ true
   pub attached : zeroFrom (s .listed) (s .attached) ≡ true
   pub domains : zeroFrom (s .listed) (s .domains) ≡ true
-  pub regions-past : zeroFrom (endpointRegionWords * s .listed) (s .regions) ≡ true
-  pub regions : (i : ℕ) → i < s .listed → zeroFrom (usedWords (s .regions) i) (endpointRegions (s .regions) i) ≡ true
 
 pub unused-facts : (s : State) → every? (unusedTests s) ≡ true → Unused s
 unused-facts s h =
     let t = opened (unusedTests s) h in
     let e = t .1 .1 .1 .1 .1 in
-    record { shares = t .0; firsts = t .1 .0; lasts = t .1 .1 .0; logged = t .1 .1 .1 .0; lost = t .1 .1 .1 .1 .0; endpoints = e .0; owners = e .1 .0; attached = e .1 .1 .0; domains = e .1 .1 .1 .0; regions-past = e .1 .1 .1 .1 .0; regions = λ i l. below-at (s .listed) _ i (e .1 .1 .1 .1 .1 .0) l }
+    record { shares = t .0; firsts = t .1 .0; lasts = t .1 .1 .0; logged = t .1 .1 .1 .0; lost = t .1 .1 .1 .1 .0; endpoints = e .0; owners = e .1 .0; attached = e .1 .1 .0; domains = e .1 .1 .1 .0 }
 
 pub unused-tests : (s : State) → Unused s → every? (unusedTests s) ≡ true
 unused-tests s h =
-    closed (unusedTests s) (h .shares, (h .firsts, (h .lasts, (h .logged, (h .lost, (h .endpoints, (h .owners, (h .attached, (h .domains, (h .regions-past, (below-all (s .listed) _ (h .regions), tt)))))))))))
+    closed (unusedTests s) (h .shares, (h .firsts, (h .lasts, (h .logged, (h .lost, (h .endpoints, (h .owners, (h .attached, (h .domains, tt)))))))))
 
 pub record Placed (s : State) : Type 0 where
   pub attachments : (i : ℕ) → i < s .listed → attachmentGood (configOf s) (getD (s .attached) i 0) (domainAt s i) ≡ true
@@ -177,7 +175,6 @@ pub record Recorded (d : Device) : Type 0 where
   pub order : pairwise before (read d .records) ≡ true
   pub zeros : zeroFrom (recordWords * d .state .live) (d .table) ≡ true
   pub passing : all? (recordPasses (configOf (d .state)) (read d)) (read d .records) ≡ true
-  pub clear : all? (recordClear (configOf (d .state)) (read d)) (read d .records) ≡ true
   pub disjoint : pairwise apart (read d .records) ≡ true
   pub shares : (g : ℕ) → g < d .state .settings .guests → length (recordsOf (guest g) (read d .records)) ≤ share (d .state .settings) g
 
@@ -188,35 +185,61 @@ record-facts d h =
       order = t .0;
       zeros = t .1 .0;
       passing = t .1 .1 .0;
-      clear = t .1 .1 .1 .0;
-      disjoint = t .1 .1 .1 .1 .0;
-      shares = λ g l. leb-true _ _ (below-at (d .state .settings .guests) (λ g. leb (length (recordsOf (guest g) (read d .records))) (share (d .state .settings) g)) g (t .1 .1 .1 .1 .1 .0) l);
+      disjoint = t .1 .1 .1 .0;
+      shares = λ g l. leb-true _ _ (below-at (d .state .settings .guests) (λ g. leb (length (recordsOf (guest g) (read d .records))) (share (d .state .settings) g)) g (t .1 .1 .1 .1 .0) l);
     }
 
 pub record-tests : (d : Device) → Recorded d → every? (recordTests d) ≡ true
 record-tests d h =
     closed (recordTests d)
-    (h .order, (h .zeros, (h .passing, (h .clear, (h .disjoint, (below-all (d .state .settings .guests) _ (λ g l. le-leb _ _ (h .shares g l)), tt))))))
+    (h .order, (h .zeros, (h .passing, (h .disjoint, (below-all (d .state .settings .guests) _ (λ g l. le-leb _ _ (h .shares g l)), tt)))))
+
+-- THE RESERVED REGIONS
+
+-- the words of the regions are zero past those in use
+pub record RegionZeros (s : State) : Type 0 where
+  pub past : zeroFrom (endpointRegionWords * s .listed) (s .regions) ≡ true
+  pub rest : (i : ℕ) → i < s .listed → zeroFrom (usedWords (s .regions) i) (endpointRegions (s .regions) i) ≡ true
+
+pub zeros-facts : (s : State) → every? (regionZeros s) ≡ true → RegionZeros s
+zeros-facts s h = let t = opened (regionZeros s) h in record { past = t .0; rest = λ i l. below-at (s .listed) _ i (t .1 .0) l }
+
+pub zeros-tests : (s : State) → RegionZeros s → every? (regionZeros s) ≡ true
+zeros-tests s h = closed (regionZeros s) (h .past, (below-all (s .listed) _ (h .rest), tt))
+
+pub record Reserved (d : Device) : Type 0 where
+  pub zeros : RegionZeros (d .state)
+  pub clear : all? (recordClear (configOf (d .state)) (read d)) (read d .records) ≡ true
+
+pub reserved-facts : (d : Device) → every? (reservedTests d) ≡ true → Reserved d
+reserved-facts d h = let t = opened (reservedTests d) h in record { zeros = zeros-facts (d .state) (t .0); clear = t .1 .0 }
+
+pub reserved-tests : (d : Device) → Reserved d → every? (reservedTests d) ≡ true
+reserved-tests d h = closed (reservedTests d) (zeros-tests (d .state) (h .zeros), (h .clear, tt))
 
 -- SOUNDNESS
+
+abbrev groups : Device → List Bool
+groups d = every? (frameTests d) ∷ every? (placeTests (d .state)) ∷ every? (logTests (d .state)) ∷ every? (recordTests d) ∷ every? (reservedTests d) ∷ []
 
 pub record Sound (d : Device) : Type 0 where
   pub frame : Framed d
   pub places : Placed (d .state)
   pub logs : Logged (d .state)
   pub records : Recorded d
+  pub reserved : Reserved d
 
 pub sound-facts : (d : Device) → sound d ≡ true → Sound d
 unfolding sound
 sound-facts d h =
-    let t = opened (every? (frameTests d) ∷ every? (placeTests (d .state)) ∷ every? (logTests (d .state)) ∷ every? (recordTests d) ∷ []) h in
-    record { frame = frame-facts d (t .0); places = place-facts (d .state) (t .1 .0); logs = log-facts (d .state) (t .1 .1 .0); records = record-facts d (t .1 .1 .1 .0) }
+    let t = opened (groups d) h in
+    record { frame = frame-facts d (t .0); places = place-facts (d .state) (t .1 .0); logs = log-facts (d .state) (t .1 .1 .0); records = record-facts d (t .1 .1 .1 .0); reserved = reserved-facts d (t .1 .1 .1 .1 .0) }
 
 pub sound-tests : (d : Device) → Sound d → sound d ≡ true
 unfolding sound
 sound-tests d h =
-    closed (every? (frameTests d) ∷ every? (placeTests (d .state)) ∷ every? (logTests (d .state)) ∷ every? (recordTests d) ∷ [])
-    (frame-tests d (h .frame), (place-tests (d .state) (h .places), (log-tests (d .state) (h .logs), (record-tests d (h .records), tt))))
+    closed (groups d)
+    (frame-tests d (h .frame), (place-tests (d .state) (h .places), (log-tests (d .state) (h .logs), (record-tests d (h .records), (reserved-tests d (h .reserved), tt)))))
 
 -- ONE GUEST'S PART
 
@@ -271,6 +294,7 @@ pub record Common (d : Device) : Type 0 where
   pub zeros : zeroFrom (recordWords * d .state .live) (d .table) ≡ true
   pub flags : (i : ℕ) → i < d .state .listed → flagGood (getD (d .state .attached) i 0) (domainAt (d .state) i) ≡ true
   pub unused : Unused (d .state)
+  pub regions : RegionZeros (d .state)
   pub faults : (i : ℕ) → i < faultPlaces → (faultUsed (d .state) i || faultZero (faultAt (d .state) i)) ≡ true
 
 pub common-facts : (d : Device) → every? (commonTests d) ≡ true → Common d
@@ -283,12 +307,13 @@ common-facts d h =
       zeros = t .1 .1 .1 .0;
       flags = λ i l. below-at (d .state .listed) _ i (t .1 .1 .1 .1 .0) l;
       unused = unused-facts (d .state) (t .1 .1 .1 .1 .1 .0);
-      faults = λ i l. below-at faultPlaces _ i (t .1 .1 .1 .1 .1 .1 .0) l;
+      regions = zeros-facts (d .state) (t .1 .1 .1 .1 .1 .1 .0);
+      faults = λ i l. below-at faultPlaces _ i (t .1 .1 .1 .1 .1 .1 .1 .0) l;
     }
 
 pub common-tests : (d : Device) → Common d → every? (commonTests d) ≡ true
 common-tests d h =
     closed (commonTests d) (
       frame-tests d (h .frame),
-      (h .guests, (h .upward, (h .zeros, (below-all (d .state .listed) _ (h .flags), (unused-tests (d .state) (h .unused), (below-all faultPlaces _ (h .faults), tt)))))),
+      (h .guests, (h .upward, (h .zeros, (below-all (d .state .listed) _ (h .flags), (unused-tests (d .state) (h .unused), (zeros-tests (d .state) (h .regions), (below-all faultPlaces _ (h .faults), tt))))))),
     )

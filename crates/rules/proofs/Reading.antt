@@ -120,7 +120,7 @@ module _ (d : Device) (h : sound d ≡ true) where
           attachments = unfold part in all-pickBy (inRange (own config g)) (g .0) (config .owners) (read d .attachments) (all-in-range g);
           order = unfold part in pairwise-keep before (mine g) (read d .records) (facts .records .order);
           records = unfold part in all-keep (recordPasses config (read d)) (mine g) (recordGood (own config g) (pickBy (g .0) (config .owners) (read d .attachments))) (read d .records) (λ r m k. of-guest r g (ap (λ n. record { 0 = n }) (eqb-true (guestOf r) (g .0) m)) k) (facts .records .passing);
-          clear = unfold part in all-keep (recordClear config (read d)) (mine g) (offRegions (own config g) (pickBy (g .0) (config .owners) (read d .attachments))) (read d .records) (λ r m k. clear-of-guest r g (ap (λ n. record { 0 = n }) (eqb-true (guestOf r) (g .0) m)) k) (facts .records .clear);
+          clear = unfold part in all-keep (recordClear config (read d)) (mine g) (offRegions (own config g) (pickBy (g .0) (config .owners) (read d .attachments))) (read d .records) (λ r m k. clear-of-guest r g (ap (λ n. record { 0 = n }) (eqb-true (guestOf r) (g .0) m)) k) (facts .reserved .clear);
           disjoint = unfold part in pairwise-keep apart (mine g) (read d .records) (facts .records .disjoint);
           share = unfold own part configOf in facts .records .shares (g .0) (unfold configOf in l);
           log = unfold part in rw (log-read d (g .0) (unfold configOf in l)) (log-sound (g .0) l);
@@ -153,5 +153,6 @@ module _ (d : Device) (h : sound d ≡ true) where
         zeros = facts .records .zeros;
         flags = λ i l. flag-good _ _ (facts .places .attachments i l);
         unused = facts .places .unused;
+        regions = facts .reserved .zeros;
         faults = λ i l. used-or-zero i (facts .logs .faults i l);
       }

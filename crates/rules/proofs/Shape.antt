@@ -138,7 +138,7 @@ module _ (d : Device) (h : sound d ≡ true) (k : Lengths (d .state)) where
   listed-back = unfold configOf in sound-listed d h
 
   pub regions-back : trimmedRegions (s .listed) (take (endpointRegionWords * s .listed) (s .regions)) ≡ s .regions
-  regions-back = trimmed-back (s .listed) (s .regions) (k .regions) (unused .regions-past) (unused .regions)
+  regions-back = trimmed-back (s .listed) (s .regions) (k .regions) (facts .reserved .zeros .past) (facts .reserved .zeros .rest)
 
   -- the state and the table written back are those that were read
   pub state-back : stateOf (configOf (d .state)) (read d) ≡ d .state

@@ -16,7 +16,7 @@ use Rattle.rules.specs.State.{Attachment, World, noFault, noLog, configO
 use Rattle.rules.specs.Guests.{own, part}
 use Rattle.rules.specs.Sound.{guest, zeroFrom, flagGood, faultZero, faultUsed, sound}
 use Rattle.rules.proofs.Records.{before-upward}
-use Rattle.rules.proofs.Groups.{Good, good-facts, Framed, Unused, Common, part-tests}
+use Rattle.rules.proofs.Groups.{Good, good-facts, Framed, Unused, RegionZeros, Common, part-tests}
 use Rattle.rules.proofs.Worlds.{Whole}
 use Rattle.rules.proofs.Words.{length-tableOf, zero-tableOf}
 use Rattle.rules.proofs.Zeros.{zero-from}
@@ -65,12 +65,14 @@ module _ (c : Config) (w : World) (h : Whole c w) where
         owners = zero-tab (length (c .endpoints)) maxEndpoints (λ i. getD (c .owners) i 0) (λ i k m. List·getD-eq-default (c .owners) 0 (rw (sym (good-c .sizes)) k));
         attached = zero-tab (length (c .endpoints)) maxEndpoints (λ i. flagOf (getD (w .attachments) i none)) (λ i k m. ap flagOf (List·getD-eq-default (w .attachments) none (past i k)));
         domains = zero-tab (length (c .endpoints)) maxEndpoints (λ i. numberOf (getD (w .attachments) i none)) (λ i k m. ap numberOf (List·getD-eq-default (w .attachments) none (past i k)));
-        regions-past = trimmed-past (length (c .endpoints)) (good-c .few) (c .regions);
-        regions = trimmed-rest (length (c .endpoints)) (good-c .few) (c .regions);
       }
     where
       past : (i : ℕ) → length (c .endpoints) ≤ i → length (w .attachments) ≤ i
       past i k = omega (arith, k, h .attachments, good-c .sizes)
+
+  regions-zero : RegionZeros (stateOf c w)
+  unfolding stateOf
+  regions-zero = record { past = trimmed-past (length (c .endpoints)) (good-c .few) (c .regions); rest = trimmed-rest (length (c .endpoints)) (good-c .few) (c .regions) }
 
   used-or-zero : (i : ℕ) → i < faultPlaces → (faultUsed (stateOf c w) i || faultZero (faultAt (stateOf c w) i)) ≡ true
   used-or-zero i l =
@@ -106,6 +108,7 @@ module _ (c : Config) (w : World) (h : Whole c w) where
           zeros = unfold write stateOf in zero-tableOf (w .records);
           flags = λ i l. unfold write in flags-good i (unfold write stateOf in l);
           unused = unfold write in unused-zero;
+          regions = unfold write in regions-zero;
           faults = λ i l. unfold write in used-or-zero i l;
         }
 

@@ -1,5 +1,5 @@
--- "State and table are sound when:" every test of four groups passes, those of the frame, of the places, of the logs and of
--- the records; and what they ask of one guest's part.
+-- "State and table are sound when:" every test of five groups passes, those of the frame, of the places, of the logs, of
+-- the records and of the reserved regions; and what they ask of one guest's part.
 use Prim.Native.Nat.{ℕ, _*_, _/_, _%_}
 use mathlib.Core.Bool.{Bool, true, false, cond, not, _&&_, _||_}
 use mathlib.Core.List.{List, [], _∷_}
@@ -64,9 +64,6 @@ unusedTests s =
     ∷ zeroFrom (s .listed) (s .owners)
     ∷ zeroFrom (s .listed) (s .attached)
     ∷ zeroFrom (s .listed) (s .domains)
-    -- "unused region places are zero"
-    ∷ zeroFrom (endpointRegionWords * s .listed) (s .regions)
-    ∷ below (s .listed) (λ i. zeroFrom (usedWords (s .regions) i) (endpointRegions (s .regions) i))
     ∷ []
 
 abbrev pub placeTests : State → List Bool
@@ -110,17 +107,9 @@ logTests s =
 unfoldable pub recordGood : Own → List Attachment → Mapping → Bool
 recordGood o l r = passes (firstFailing (recordSteps o l (domainOf r) r))
 
--- "Soundness gains the same rule": the record overlaps no region of an endpoint in its domain, where l are its guest's attachments
-unfoldable pub offRegions : Own → List Attachment → Mapping → Bool
-offRegions o l r = not (onRegion (regionsIn (domainOf r) l (o .regions)) r)
-
 -- a record would pass steps 1 to 6 of MAP for the guest and the domain that its first word names
 abbrev pub recordPasses : Config → World → Mapping → Bool
 recordPasses c w r = recordGood (own c (guest (guestOf r))) (part c (guest (guestOf r)) w .attachments) r
-
--- it overlaps no region of an endpoint in that domain
-abbrev pub recordClear : Config → World → Mapping → Bool
-recordClear c w r = offRegions (own c (guest (guestOf r))) (part c (guest (guestOf r)) w .attachments) r
 
 -- "no guest holds more than its share"
 abbrev pub sharesKept : Settings → List Mapping → Bool
@@ -133,17 +122,45 @@ recordTests d =
     ∷ zeroFrom (recordWords * d .state .live) (d .table)
     -- "every record would pass steps 1 to 6 of MAP"
     ∷ all? (recordPasses (configOf (d .state)) (read d)) (read d .records)
-    -- "overlapping a region of any endpoint in the domain"
-    ∷ all? (recordClear (configOf (d .state)) (read d)) (read d .records)
     -- "no two records of one guest and domain overlap"
     ∷ pairwise apart (read d .records)
     -- "no guest holds more than its share"
     ∷ sharesKept (d .state .settings) (read d .records)
     ∷ []
 
--- document 01's term "sound": every test of the four groups passes
+-- THE RESERVED REGIONS
+
+-- the record overlaps no region of an endpoint in its domain, where l are its guest's attachments
+unfoldable pub offRegions : Own → List Attachment → Mapping → Bool
+offRegions o l r = not (onRegion (regionsIn (domainOf r) l (o .regions)) r)
+
+-- so it is for the guest that the record's first word names
+abbrev pub recordClear : Config → World → Mapping → Bool
+recordClear c w r = offRegions (own c (guest (guestOf r))) (part c (guest (guestOf r)) w .attachments) r
+
+-- "unused region places are zero": those of endpoints not in use, and of each endpoint those past its regions
+abbrev pub regionZeros : State → List Bool
+regionZeros s =
+    zeroFrom (endpointRegionWords * s .listed) (s .regions)
+    ∷ below (s .listed) (λ i. zeroFrom (usedWords (s .regions) i) (endpointRegions (s .regions) i))
+    ∷ []
+
+abbrev pub reservedTests : Device → List Bool
+reservedTests d =
+    every? (regionZeros (d .state))
+    -- "Soundness gains the same rule": no record overlaps "a region of any endpoint in the domain"
+    ∷ all? (recordClear (configOf (d .state)) (read d)) (read d .records)
+    ∷ []
+
+-- document 01's term "sound": every test of the five groups passes
 unfoldable pub sound : Device → Bool
-sound d = every? (every? (frameTests d) ∷ every? (placeTests (d .state)) ∷ every? (logTests (d .state)) ∷ every? (recordTests d) ∷ [])
+sound d =
+    every? (every? (frameTests d)
+    ∷ every? (placeTests (d .state))
+    ∷ every? (logTests (d .state))
+    ∷ every? (recordTests d)
+    ∷ every? (reservedTests d)
+    ∷ [])
 
 -- ONE GUEST'S PART, AND WHAT IS NO GUEST'S
 
@@ -192,5 +209,6 @@ commonTests d =
     ∷ below (d .state .listed) (λ i. flagGood (getD (d .state .attached) i 0) (domainAt (d .state) i))
     -- "unused places zero"
     ∷ every? (unusedTests (d .state))
+    ∷ every? (regionZeros (d .state))
     ∷ below faultPlaces (λ i. faultUsed (d .state) i || faultZero (faultAt (d .state) i))
     ∷ []

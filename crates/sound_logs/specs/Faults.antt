@@ -15,7 +15,7 @@ use Rattle.state_fields.specs.Assembled.{stateWith}
 -- a state of endpoints and faults alone: what the test of the fault places looks at
 abbrev pub faultsAlone : ℕ → List ℕ → List ℕ → List ℕ → List ℕ → List ℕ → List ℕ → List ℕ → State
 faultsAlone listed endpoints owners logged reasons flags sources addresses =
-    stateWith (zeroState .settings) listed 0 endpoints owners [] [] logged [] reasons flags sources addresses
+    stateWith (zeroState .settings) listed 0 endpoints owners [] [] [] logged [] reasons flags sources addresses
 
 -- a guest's endpoints alone: what the test of a fault looks at
 abbrev pub endpointsAlone : List ℕ → Own
@@ -29,6 +29,7 @@ endpointsAlone es =
       input = record { start = 0; end = 0 };
       domains = record { start = 0; end = 0 };
       endpoints = es;
+      regions = [];
     }
 
 -- the fault at place i

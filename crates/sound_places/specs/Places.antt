@@ -32,6 +32,7 @@ rangeAlone range =
       settings = record { guests = 0; shares = []; firsts = []; lasts = []; mask = 0; input = record { start = 0; end = 0 }; domains = range };
       endpoints = [];
       owners = [];
+      regions = [];
     }
 
 -- an endpoint's numbers: in use, with a good attachment, or zero
@@ -46,4 +47,4 @@ endpointPlace range n endpoints owners attached domains i =
 -- a state of these places alone: what soundness' tests of the places look at
 abbrev pub placesAlone : Settings → ℕ → List ℕ → List ℕ → List ℕ → List ℕ → List ℕ → List ℕ → State
 placesAlone settings listed endpoints owners attached domains logged lost =
-    stateWith settings listed 0 endpoints owners attached domains logged lost [] [] [] []
+    stateWith settings listed 0 endpoints owners attached domains [] logged lost [] [] [] []
