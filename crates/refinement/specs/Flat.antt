@@ -5,9 +5,9 @@ use mathlib.Core.Bool.{Bool, cond, not, _&&_}
 use mathlib.Core.List.{List, _++_}
 use mathlib.Core.Option.{Option, some, none}
 use lib.Dec.{leb, ltb, eqb}
-use lib.ListN.{length, getD, take, drop}
-use Rattle.laws.specs.Lists.{any?, tab}
-use Rattle.rules.specs.Sizes.{maxGuests, maxFaults, faultSize, domainSpan, topAddress}
+use lib.ListN.{length, getD, take, drop, replicate}
+use Rattle.laws.specs.Lists.{any?, tab, pad}
+use Rattle.rules.specs.Sizes.{maxGuests, maxFaults, faultSize, propertiesSize, domainSpan, topAddress}
 use Rattle.rules.specs.declared.Guest.{Guest}
 use Rattle.rules.specs.declared.Endpoint.{Endpoint}
 use Rattle.rules.specs.declared.Domain.{Domain}
@@ -18,13 +18,16 @@ use Rattle.rules.specs.declared.Answer.the-variants.{Done, Served, Through, Fet
 use Rattle.rules.specs.declared.Refusal.the-variants.{UnknownEndpoint}
 use Rattle.rules.specs.declared.Cause.the-variants.{Unattached, Unmapped}
 use Rattle.rules.specs.declared.Access.{Access}
-use Rattle.rules.specs.Configuration.{share}
+use Rattle.rules.specs.Configuration.{share, meets}
 use Rattle.rules.specs.Table.{keyOf, records, overlap}
 use Rattle.rules.specs.State.{Device, configOf, faultAt, domainAt}
 use Rattle.rules.specs.Guests.{own, recordsOf}
-use Rattle.rules.specs.Requests.{OK, DEVERR}
+use Rattle.rules.specs.Requests.{OK, DEVERR, NOENT}
 use Rattle.rules.specs.Handlers.{statusOf, outside, attachChain, detachChain, formSteps, mapChain, straddles, unmapChain}
 use Rattle.rules.specs.Access.{findMapping, faultOf, bytesOf}
+use Rattle.wire_properties.specs.Properties.{propertiesPut}
+use Rattle.state_regions.specs.Held.{heldRegions}
+use Rattle.table_reserved.specs.Reserved.{regionsMet}
 use Rattle.table_insert.specs.Inserted.{insertedWords}
 use Rattle.table_remove.specs.Removed.{keptOf, removedWords}
 use Rattle.state_fields.specs.Fields.{withLive}
@@ -102,23 +105,41 @@ moveTo d g i dom =
 abbrev pub settled : ℕ → Device → Device → StatusAndDevice
 settled st d e = withStatus st (cond (eqb st OK) e d)
 
+-- the endpoint at place i is attached to domain dom
+abbrev pub isInDomain : State → ℕ → Domain → Bool
+isInDomain s i dom = isAttached s i && eqb (getD (s .domains) i 0) (dom .0)
+
+-- some record of guest g's domain dom overlaps a region of the endpoint at place i
+abbrev pub barredFrom : Device → Guest → Domain → ℕ → Bool
+barredFrom d g dom i = regionsMet (keyOf g dom) (liveRecords d) (heldRegions (d .state .regions) i)
+
 -- the status of an ATTACH of the endpoint at place i
-unfoldable pub attachStatus : State → Guest → Domain → ℕ → ℕ → ℕ
-attachStatus s g dom i reserved =
-    statusOf (attachChain (not (eqb reserved 0)) (not (ownedAt s g i)) (outside (s .settings .domains .start) (s .settings .domains .end) (dom .0)))
+unfoldable pub attachStatus : Device → Guest → Domain → ℕ → ℕ → ℕ
+attachStatus d g dom i reserved =
+    statusOf (attachChain
+    (not (eqb reserved 0))
+    (not (ownedAt (d .state) g i))
+    (outside (d .state .settings .domains .start) (d .state .settings .domains .end) (dom .0))
+    (not (isInDomain (d .state) i dom) && barredFrom d g dom i))
 
 unfoldable pub handleAttach : Device → Guest → Domain → Endpoint → ℕ → StatusAndDevice
-handleAttach d g dom e reserved = settled (attachStatus (d .state) g dom (endpointIndex (d .state) e) reserved) d (moveTo d g (endpointIndex (d .state) e) dom)
+handleAttach d g dom e reserved = settled (attachStatus d g dom (endpointIndex (d .state) e) reserved) d (moveTo d g (endpointIndex (d .state) e) dom)
 
 -- the status of a DETACH of the endpoint at place i
 unfoldable pub detachStatus : State → Guest → Domain → ℕ → ℕ → ℕ
 detachStatus s g dom i reserved =
-    statusOf (detachChain (not (eqb reserved 0)) (not (ownedAt s g i)) (not (isAttached s i && eqb (getD (s .domains) i 0) (dom .0))))
+    statusOf (detachChain (not (eqb reserved 0)) (not (ownedAt s g i)) (not (isInDomain s i dom)))
 
 unfoldable pub handleDetach : Device → Guest → Domain → Endpoint → ℕ → StatusAndDevice
 handleDetach d g dom e reserved = settled (detachStatus (d .state) g dom (endpointIndex (d .state) e) reserved) d (leave d g (endpointIndex (d .state) e) dom)
 
 -- MAP AND UNMAP
+
+-- the record overlaps a region of one of guest g's endpoints in domain dom
+unfoldable pub onRegions : State → Guest → Domain → Mapping → Bool
+onRegions s g dom r =
+    anyBelow (min (length (s .owners)) (min (length (s .attached)) (length (s .domains))))
+    (λ i. belongs (s .owners) (s .attached) (s .domains) g dom i && any? (meets (r .start) (r .end)) (heldRegions (s .regions) i))
 
 unfoldable pub mapStatus : Device → Guest → Domain → Mapping → ℕ
 mapStatus d g dom r =
@@ -126,6 +147,7 @@ mapStatus d g dom r =
     (not (domainExists (d .state) g dom))
     (formSteps (own (configOf (d .state)) g) r)
     (any? (overlap r) (liveRecords d))
+    (onRegions (d .state) g dom r)
     (leb (share (d .state .settings) (g .0)) (length (recordsOf g (liveRecords d)))))
 
 -- MAP, where one record more can be counted
@@ -142,6 +164,16 @@ unmapStatus d g dom a b reserved =
 
 unfoldable pub handleUnmap : Device → Guest → Domain → ℕ → ℕ → ℕ → StatusAndDevice
 handleUnmap d g dom a b reserved = settled (unmapStatus d g dom a b reserved) d (removed d (keyOf g dom) (keyOf g dom) a b)
+
+-- PROBE
+
+-- the status of a PROBE of the endpoint at place i
+abbrev pub probeStatus : State → Guest → ℕ → ℕ
+probeStatus s g i = cond (ownedAt s g i) OK NOENT
+
+-- the properties that it writes: none where its status is not OK
+unfoldable pub probeBytes : State → Guest → ℕ → List ℕ
+probeBytes s g i = cond (ownedAt s g i) (pad propertiesSize 0 (propertiesPut (heldRegions (s .regions) i))) (replicate propertiesSize 0)
 
 -- RESET
 

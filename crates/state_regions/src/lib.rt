@@ -1,0 +1,1 @@
+// The reserved regions of an endpoint, read off the state's words.

@@ -1,0 +1,1 @@
+// Records of a domain on the reserved regions of an endpoint.

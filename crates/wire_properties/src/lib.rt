@@ -1,0 +1,1 @@
+// The properties that PROBE writes.
