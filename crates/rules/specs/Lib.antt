@@ -12,3 +12,4 @@ pub mod Device
 pub mod History
 pub mod Claims
 pub mod Examples
+pub mod RegionExamples
