@@ -1,9 +1,14 @@
-//! Counts of the answers met, to show that the journals reach all of them.
+//! Counts of the answers and regions met, to show that the journals reach all of them.
 
+mod regions;
+
+use crate::compare::{Played, PlayedLine};
 use crate::journal::LineKind;
 use crate::requests::{ATTACH, DETACH, MAP, UNMAP};
 use std::collections::BTreeMap;
 use std::fmt::{Display, Formatter, Result};
+
+pub use regions::{RegionCoverage, GROUPS};
 
 /// The calls by the letter of their line, and the request types and statuses by name.
 const LETTERS: [&str; 5] = ["S", "R", "Z", "F", "A"];
@@ -21,11 +26,21 @@ pub struct Coverage {
     fault_records: u64,
     ends: u64,
     bad_journals: u64,
+    regions: RegionCoverage,
 }
 
 impl Coverage {
+    /// Counts a journal's regions and the lines that the second program prints for it.
+    pub fn add_played(&mut self, journal: &[u8], played: &Played) {
+        let bad = |line: &PlayedLine| line.text.strip_prefix("bad journal at ")?.parse().ok();
+        self.regions.add(journal, played.lines.last().and_then(bad));
+        for line in &played.lines {
+            self.add(line.kind, &line.text);
+        }
+    }
+
     /// Counts one line.
-    pub fn add(&mut self, kind: LineKind, text: &str) {
+    fn add(&mut self, kind: LineKind, text: &str) {
         match kind {
             LineKind::End => self.ends += 1,
             LineKind::BadJournal => self.bad_journals += 1,
@@ -55,6 +70,11 @@ impl Coverage {
         self.statuses.get(&(request_type, status)).copied().unwrap_or(0)
     }
 
+    /// The counts of regions.
+    pub fn regions(&self) -> &RegionCoverage {
+        &self.regions
+    }
+
     pub fn bad_journals(&self) -> u64 {
         self.bad_journals
     }
@@ -80,6 +100,7 @@ impl Display for Coverage {
             writeln!(out)?;
         }
         writeln!(out, "fault records  {}", self.fault_records)?;
+        write!(out, "{}", self.regions)?;
         write!(out, "read to the end  {}, bad journals  {}", self.ends, self.bad_journals)
     }
 }

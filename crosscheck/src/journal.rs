@@ -10,6 +10,7 @@ use std::io::{self, ErrorKind, Read};
 pub const GUEST: u8 = 0x01;
 pub const ENDPOINT: u8 = 0x02;
 pub const START: u8 = 0x03;
+pub const REGION: u8 = 0x04;
 pub const REQUEST_20: u8 = 0x11;
 pub const REQUEST_28: u8 = 0x12;
 pub const REQUEST_36: u8 = 0x13;
@@ -21,11 +22,12 @@ pub const FETCH: u8 = 0x23;
 const LONGEST_BODY: usize = 37;
 
 /// The bytes after the kind byte, if the kind is known.
-fn body_bytes(kind: u8) -> Option<usize> {
+pub fn body_bytes(kind: u8) -> Option<usize> {
     match kind {
         GUEST => Some(2 + 8 + 8),
         ENDPOINT => Some(4 + 1),
         START => Some(8 + 8 + 8 + 4 + 4),
+        REGION => Some(4 + 1 + 8 + 8),
         REQUEST_20 => Some(1 + 20),
         REQUEST_28 => Some(1 + 28),
         REQUEST_36 => Some(1 + 36),

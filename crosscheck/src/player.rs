@@ -7,6 +7,7 @@ use crate::faults::{Direction, FAULT_BYTES, LOG_PLACES};
 use crate::fields::Fields;
 use crate::journal::{self, Line, LineKind};
 use crate::numbers::{Endpoint, Guest};
+use crate::regions::{Region, MOST_REGIONS};
 use crate::requests::WRITABLE_BYTES;
 use crate::sound::SoundnessTest;
 use std::fmt::{Arguments, Write};
@@ -53,6 +54,7 @@ impl<P: FnMut(Line) -> io::Result<()>> Player<P> {
             journal::GUEST => Ok(self.guest(fields)),
             journal::ENDPOINT => Ok(self.endpoint(fields)),
             journal::START => self.start(fields),
+            journal::REGION => Ok(self.region(fields)),
             journal::REQUEST_20 | journal::REQUEST_28 | journal::REQUEST_36 => self.request(fields),
             journal::ACCESS => self.access(fields),
             journal::RESET => self.reset(fields),
@@ -78,9 +80,26 @@ impl<P: FnMut(Line) -> io::Result<()>> Player<P> {
         if taken {
             let endpoint = Endpoint(fields.u32());
             let owner = Guest(fields.u8());
-            self.endpoints.push(ListedEndpoint { endpoint, owner });
+            self.endpoints.push(ListedEndpoint::new(endpoint, owner));
         }
         taken
+    }
+
+    /// Endpoint 4, subtype 1, start 8, end 8; bad after the start, for a number that no endpoint has
+    /// been named by, and as that number's fifth region. Where two endpoints have the number, the
+    /// first has its regions.
+    fn region(&mut self, mut fields: Fields) -> bool {
+        let endpoint = Endpoint(fields.u32());
+        let region = Region { subtype: fields.u8(), start: fields.u64(), end: fields.u64() };
+        let named = self.endpoints.iter_mut().find(|entry| entry.endpoint == endpoint);
+        let room = named.filter(|entry| entry.regions.len() < MOST_REGIONS);
+        match room {
+            Some(entry) if self.device.is_none() => {
+                entry.regions.push(region);
+                true
+            }
+            _ => false,
+        }
     }
 
     /// Mask 8, input range 8 + 8, domain range 4 + 4; a refused start is a start too.

@@ -1,9 +1,10 @@
 //! Journal records as values, and the bytes they are written as.
 
-use crate::config::Configuration;
+use crate::config::{Configuration, ListedEndpoint};
 use crate::faults::Direction;
 use crate::journal;
 use crate::numbers::{Domain, Endpoint, Guest};
+use crate::regions::Region;
 use crate::requests::{ATTACH, DETACH, MAP, UNMAP};
 
 #[derive(Clone, Debug, PartialEq, Eq)]
@@ -16,6 +17,11 @@ pub enum Record {
     Endpoint {
         endpoint: Endpoint,
         owner: Guest,
+    },
+    /// A reserved region of the endpoint of this number.
+    Region {
+        endpoint: Endpoint,
+        region: Region,
     },
     Start {
         mask: u64,
@@ -106,6 +112,11 @@ impl Record {
         matches!(self, Request { .. } | Access { .. } | Reset { .. } | Fetch { .. })
     }
 
+    /// Whether the record names an endpoint of this number.
+    pub fn names(&self, number: Endpoint) -> bool {
+        matches!(self, Record::Endpoint { endpoint, .. } if *endpoint == number)
+    }
+
     /// Writes the kind byte and the body.
     pub fn encode(&self, out: &mut Vec<u8>) {
         match self {
@@ -119,6 +130,13 @@ impl Record {
                 out.push(journal::ENDPOINT);
                 out.extend(endpoint.0.to_le_bytes());
                 out.push(owner.0);
+            }
+            Record::Region { endpoint, region } => {
+                out.push(journal::REGION);
+                out.extend(endpoint.0.to_le_bytes());
+                out.push(region.subtype);
+                out.extend(region.start.to_le_bytes());
+                out.extend(region.end.to_le_bytes());
             }
             Record::Start { mask, input, domains } => encode_start(out, *mask, *input, *domains),
             Record::Request { guest, readable } => {
@@ -158,7 +176,7 @@ fn request_kind(length: usize) -> u8 {
     }
 }
 
-/// The guest and endpoint records of a configuration, guests first.
+/// The records of a configuration's guests, of its endpoints, and of their regions, in this order.
 pub fn lists(configuration: &Configuration) -> Vec<Record> {
     let guests = configuration.guests.iter().map(|guest| Record::Guest {
         share: guest.share,
@@ -169,7 +187,13 @@ pub fn lists(configuration: &Configuration) -> Vec<Record> {
         .endpoints
         .iter()
         .map(|entry| Record::Endpoint { endpoint: entry.endpoint, owner: entry.owner });
-    guests.chain(endpoints).collect()
+    guests.chain(endpoints).chain(configuration.endpoints.iter().flat_map(regions)).collect()
+}
+
+/// The records of an endpoint's regions.
+pub fn regions(entry: &ListedEndpoint) -> impl Iterator<Item = Record> + '_ {
+    let endpoint = entry.endpoint;
+    entry.regions.iter().map(move |region| Record::Region { endpoint, region: *region })
 }
 
 /// The start record of a configuration.

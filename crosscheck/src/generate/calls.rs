@@ -211,9 +211,8 @@ impl<'a> CallMaker<'a> {
 
     /// What is known of an endpoint, if it is the guest's.
     fn known(&mut self, guest: Guest, endpoint: Endpoint) -> Option<&mut Option<Domain>> {
-        let wanted = ListedEndpoint { endpoint, owner: guest };
-        let listed = &self.configuration.endpoints;
-        let place = listed.iter().position(|entry| *entry == wanted)?;
+        let wanted = |entry: &ListedEndpoint| (entry.endpoint, entry.owner) == (endpoint, guest);
+        let place = self.configuration.endpoints.iter().position(wanted)?;
         self.domains.get_mut(place)
     }
 

@@ -6,6 +6,7 @@ use crate::device::Device;
 use crate::faults::{Direction, Fault, Reason, LOG_PLACES};
 use crate::numbers::{Domain, Endpoint, Guest};
 use crate::places::{table_of, State};
+use crate::regions::{Region, MSI, RESERVED};
 use crate::sound::SoundnessTest;
 use crate::table::Mapping;
 use std::ops::RangeInclusive;
@@ -15,17 +16,31 @@ const G0: Guest = Guest(0);
 const G1: Guest = Guest(1);
 
 fn configuration() -> Configuration {
-    let entry = |endpoint, owner| ListedEndpoint { endpoint: Endpoint(endpoint), owner };
+    let entry = |endpoint, owner| ListedEndpoint::new(Endpoint(endpoint), owner);
+    let with_regions = |endpoint, owner, regions: &[Region]| ListedEndpoint {
+        regions: regions.to_vec(),
+        ..entry(endpoint, owner)
+    };
     Configuration {
         guests: vec![
             GuestShare { share: 3, window: 0x8000_0000..=0x8fff_ffff },
             GuestShare { share: 2, window: 0x9000_0000..=0x9fff_ffff },
         ],
-        endpoints: vec![entry(8, G0), entry(9, G1), entry(10, G0), entry(11, G1)],
+        endpoints: vec![
+            with_regions(8, G0, &[region(MSI, 8), region(RESERVED, 7)]),
+            entry(9, G1),
+            with_regions(10, G0, &[12, 10, 14, 16].map(|page| region(RESERVED, page))),
+            with_regions(11, G1, &[region(RESERVED, 2)]),
+        ],
         page_size_mask: 0x3000,
         input_range: 0x1000..=0xf_ffff,
         domain_range: 1..=15,
     }
+}
+
+/// The region of this page.
+fn region(subtype: u8, page: u64) -> Region {
+    Region { subtype, start: page * PAGE, end: page * PAGE + PAGE - 1 }
 }
 
 /// The record of these pages, in the guest's window.
@@ -116,6 +131,41 @@ fn the_configuration_is_good() {
     refused(|device| device.configuration.endpoints[3].endpoint = Endpoint(8));
 }
 
+/// As above, with the change made to the regions of endpoint 8, an MSI one and a reserved one.
+fn refused_regions(change: impl FnOnce(&mut Vec<Region>)) {
+    refused(|device| change(&mut device.configuration.endpoints[0].regions));
+}
+
+/// At most four, of a known subtype, with start <= end, one MSI at most, and no address in two.
+#[test]
+fn an_endpoints_regions_are_good() {
+    refused(|device| device.configuration.endpoints[2].regions.push(region(RESERVED, 18)));
+    refused_regions(|regions| regions[0].subtype = 2);
+    refused_regions(|regions| regions[1].subtype = 255);
+    refused_regions(|regions| regions[0].end = regions[0].start - 1);
+    refused_regions(|regions| regions[1].start = u64::MAX);
+    refused_regions(|regions| regions[1].subtype = MSI);
+    refused_regions(|regions| regions[1].end += 1);
+    refused_regions(|regions| regions[0].start -= 1);
+    refused_regions(|regions| regions.push(Region { subtype: RESERVED, start: 0, end: u64::MAX }));
+}
+
+/// Adjacent regions, one of a single address, one that is all of the space, equal regions of two
+/// endpoints, and none at all.
+#[test]
+fn good_regions_are_taken() {
+    let taken = |regions: &[Region]| {
+        let mut device = sound_device();
+        device.configuration.endpoints[3].regions = regions.to_vec();
+        assert!(is_sound(&device), "{regions:?}");
+    };
+    taken(&[]);
+    taken(&[region(RESERVED, 3), region(MSI, 4), region(RESERVED, 2), region(RESERVED, 5)]);
+    taken(&[Region { subtype: MSI, start: u64::MAX, end: u64::MAX }]);
+    taken(&[Region { subtype: RESERVED, start: 0, end: u64::MAX }]);
+    taken(&[region(MSI, 8), region(RESERVED, 7)]);
+}
+
 /// A guest count of 0 or 5 is not good. With 0 a call under a guest's number is answered 1 first.
 #[test]
 fn one_to_four_guests() {
@@ -137,7 +187,7 @@ fn one_to_four_guests() {
 fn at_most_32_endpoints() {
     refused(|device| {
         for endpoint in 12..41 {
-            let entry = ListedEndpoint { endpoint: Endpoint(endpoint), owner: G0 };
+            let entry = ListedEndpoint::new(Endpoint(endpoint), G0);
             device.configuration.endpoints.push(entry);
             device.attached.push(None);
         }

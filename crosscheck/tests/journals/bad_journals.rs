@@ -38,7 +38,7 @@ fn an_empty_journal_and_one_without_a_start() {
 /// "An unknown kind", first of all, after whole records, and before and after the start.
 #[test]
 fn an_unknown_kind() {
-    for kind in [0x00, 0x04, 0x10, 0x14, 0x20, 0x24, 0x7f, 0xff] {
+    for kind in [0x00, 0x05, 0x10, 0x14, 0x20, 0x24, 0x7f, 0xff] {
         let raw = Record::Raw(vec![kind]);
         assert_eq!(lines_of_bytes(&[kind]), ["bad journal at 0"]);
         assert_eq!(lines_after(vec![GUEST], raw.clone()), ["bad journal at 19"]);

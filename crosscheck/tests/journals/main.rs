@@ -1,4 +1,4 @@
-//! Journals with their lines worked out by hand from document 01, whose sentences the
+//! Journals with their lines worked out by hand from documents 01 and 02, whose sentences the
 //! comments quote.
 
 mod bad_journals;
@@ -7,6 +7,7 @@ mod examples;
 mod faults;
 mod numbers;
 mod refused_start;
+mod regions;
 mod requests;
 mod support;
 mod worked_run;
