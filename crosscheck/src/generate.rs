@@ -5,6 +5,7 @@ mod calls;
 mod damage;
 mod edges;
 mod flood;
+mod layouts;
 mod pairs;
 mod refused;
 mod regions;

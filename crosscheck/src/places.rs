@@ -86,6 +86,7 @@ impl State {
             && self.regions_are_sound()
             && (0..MOST_GUESTS).all(|guest| self.log_is_sound(guest))
             && self.records_are_sound(table)
+            && self.records_keep_off(table)
     }
 
     /// A guest in use has counts within their limits; the place of one that is not is zero.

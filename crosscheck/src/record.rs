@@ -5,7 +5,7 @@ use crate::faults::Direction;
 use crate::journal;
 use crate::numbers::{Domain, Endpoint, Guest};
 use crate::regions::Region;
-use crate::requests::{ATTACH, DETACH, MAP, UNMAP};
+use crate::requests::{ATTACH, DETACH, MAP, PROBE, UNMAP};
 
 #[derive(Clone, Debug, PartialEq, Eq)]
 pub enum Record {
@@ -28,7 +28,7 @@ pub enum Record {
         input: (u64, u64),
         domains: (u32, u32),
     },
-    /// The readable part has 20, 28 or 36 bytes.
+    /// The readable part has 20, 28, 36 or 72 bytes.
     Request {
         guest: Guest,
         readable: Vec<u8>,
@@ -95,6 +95,14 @@ impl Record {
         readable.extend(virt.0.to_le_bytes());
         readable.extend(virt.1.to_le_bytes());
         readable.extend(reserved.to_le_bytes());
+        Record::Request { guest, readable }
+    }
+
+    /// PROBE with zeros in the 64 bytes that are ignored.
+    pub fn probe(guest: Guest, endpoint: Endpoint) -> Self {
+        let mut readable = vec![PROBE, 0, 0, 0];
+        readable.extend(endpoint.0.to_le_bytes());
+        readable.resize(72, 0);
         Record::Request { guest, readable }
     }
 
@@ -172,6 +180,7 @@ fn request_kind(length: usize) -> u8 {
         20 => journal::REQUEST_20,
         28 => journal::REQUEST_28,
         36 => journal::REQUEST_36,
+        72 => journal::REQUEST_72,
         _ => panic!("a request of {length} bytes has no journal record"),
     }
 }

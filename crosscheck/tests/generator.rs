@@ -1,5 +1,6 @@
 //! The generator's journals: the same for the same seed, pairs that are pairs, every answer met.
 
+use crosscheck::answers::Inval;
 use crosscheck::compare::{play, Played};
 use crosscheck::coverage::{Coverage, GROUPS};
 use crosscheck::generate::{case, Case};
@@ -7,7 +8,7 @@ use crosscheck::journal;
 use crosscheck::long_journal::LongJournal;
 use crosscheck::numbers::Guest;
 use crosscheck::record::{journal_of, Record};
-use crosscheck::requests::{ATTACH, DETACH, MAP, UNMAP};
+use crosscheck::requests::{ATTACH, DETACH, MAP, PROBE, UNMAP};
 use std::collections::HashMap;
 
 fn journals_of(case: Case) -> Vec<Vec<u8>> {
@@ -27,6 +28,7 @@ fn record_length(kind: u8) -> Option<usize> {
         journal::REQUEST_20 => Some(22),
         journal::REQUEST_28 => Some(30),
         journal::REQUEST_36 => Some(38),
+        journal::REQUEST_72 => Some(74),
         journal::ACCESS => Some(14),
         journal::RESET => Some(2),
         journal::FETCH => Some(3),
@@ -187,11 +189,12 @@ fn every_answer_is_met_often() {
             assert!(count >= 50, "{letter} {number} came {count} times");
         }
     }
-    let statuses: [(u8, &[u8]); 4] = [
-        (ATTACH, &[0, 4, 5, 6]),
+    let statuses: [(u8, &[u8]); 5] = [
+        (ATTACH, &[0, 2, 4, 5, 6]),
         (DETACH, &[0, 4, 6]),
         (MAP, &[0, 4, 5, 6, 7, 8]),
         (UNMAP, &[0, 4, 5, 6]),
+        (PROBE, &[0, 6]),
     ];
     for (request_type, statuses) in statuses {
         for &status in statuses {
@@ -199,6 +202,11 @@ fn every_answer_is_met_often() {
             assert!(count >= 50, "type {request_type} was answered {status} {count} times");
         }
     }
+    for cause in [Inval::Fields, Inval::Records, Inval::Regions] {
+        let count = coverage.map_inval(cause);
+        assert!(count >= 50, "MAP was answered INVAL by {cause:?} {count} times");
+    }
+    assert_eq!(coverage.properties(), coverage.status(PROBE, 0) + coverage.status(PROBE, 6));
     assert!(coverage.bad_journals() >= 50, "{} bad journals", coverage.bad_journals());
     let cases = GROUPS.iter().flat_map(|(_, cases)| cases.iter());
     for case in cases {

@@ -50,7 +50,9 @@ fn damage_records(random: &mut Random, records: &mut Vec<Record>) {
         7 | 8 => return regions::fifth(random, records, start),
         9 | 10 => return regions::early(random, records, start),
         11 => call(random),
-        12 | 13 => Record::Raw(vec![random.pick(&[0, 4, 5, 0x10, 0x14, 0x20, 0x24, 0x80, 0xff])]),
+        12 | 13 => {
+            Record::Raw(vec![random.pick(&[0, 4, 5, 0x10, 0x14, 0x15, 0x20, 0x24, 0x80, 0xff])])
+        }
         _ => bad_last_byte(random),
     };
     records.insert(place, damage);
@@ -81,11 +83,12 @@ fn set_up_record(random: &mut Random, before: &[Record]) -> Record {
 /// A call, bad where it comes before the start.
 fn call(random: &mut Random) -> Record {
     let guest = Guest(random.below(4) as u8);
-    match random.below(5) {
+    match random.below(6) {
         0 => Record::attach(guest, Domain(1), Endpoint(8)),
         1 => Record::map(guest, Domain(1), (0, 0xfff), 0x8000_0000, 3),
         2 => Record::read(Endpoint(8), 0),
         3 => Record::Reset { guest },
+        4 => Record::probe(guest, Endpoint(8)),
         _ => Record::Fetch { guest, asked: 3 },
     }
 }

@@ -27,7 +27,7 @@ pub fn add(random: &mut Random, configuration: &mut Configuration) {
 
 /// One to four good regions, in any order and now and then the whole space: a run of small ones,
 /// adjacent or with gaps, from among the pages that the calls use or from further off.
-fn good(random: &mut Random, page: u64, first: u64) -> Vec<Region> {
+pub fn good(random: &mut Random, page: u64, first: u64) -> Vec<Region> {
     if random.below(24) == 0 {
         return vec![region(random.pick(&[RESERVED, MSI]), 0, u64::MAX)];
     }

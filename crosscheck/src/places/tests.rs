@@ -172,7 +172,7 @@ fn an_endpoint_is_attached_or_holds_0() {
     refused(|state| state.attached[0] = 2);
     refused(|state| state.attached[3] = 255);
     refused(|state| state.domains[3] = 1);
-    assert!(taken(|state, _| (state.attached[3], state.domains[3]) = (1, 1)));
+    assert!(taken(|state, _| (state.attached[3], state.domains[3]) = (1, 2)));
 }
 
 #[test]

@@ -11,6 +11,8 @@ use crate::sound::SoundnessTest;
 use crate::table::Mapping;
 use std::ops::RangeInclusive;
 
+mod regions;
+
 const PAGE: u64 = 0x1000;
 const G0: Guest = Guest(0);
 const G1: Guest = Guest(1);
@@ -129,41 +131,6 @@ fn the_configuration_is_good() {
     refused(|device| device.configuration.domain_range = RangeInclusive::new(2, 1));
     refused(|device| device.configuration.endpoints[3].owner = Guest(2));
     refused(|device| device.configuration.endpoints[3].endpoint = Endpoint(8));
-}
-
-/// As above, with the change made to the regions of endpoint 8, an MSI one and a reserved one.
-fn refused_regions(change: impl FnOnce(&mut Vec<Region>)) {
-    refused(|device| change(&mut device.configuration.endpoints[0].regions));
-}
-
-/// At most four, of a known subtype, with start <= end, one MSI at most, and no address in two.
-#[test]
-fn an_endpoints_regions_are_good() {
-    refused(|device| device.configuration.endpoints[2].regions.push(region(RESERVED, 18)));
-    refused_regions(|regions| regions[0].subtype = 2);
-    refused_regions(|regions| regions[1].subtype = 255);
-    refused_regions(|regions| regions[0].end = regions[0].start - 1);
-    refused_regions(|regions| regions[1].start = u64::MAX);
-    refused_regions(|regions| regions[1].subtype = MSI);
-    refused_regions(|regions| regions[1].end += 1);
-    refused_regions(|regions| regions[0].start -= 1);
-    refused_regions(|regions| regions.push(Region { subtype: RESERVED, start: 0, end: u64::MAX }));
-}
-
-/// Adjacent regions, one of a single address, one that is all of the space, equal regions of two
-/// endpoints, and none at all.
-#[test]
-fn good_regions_are_taken() {
-    let taken = |regions: &[Region]| {
-        let mut device = sound_device();
-        device.configuration.endpoints[3].regions = regions.to_vec();
-        assert!(is_sound(&device), "{regions:?}");
-    };
-    taken(&[]);
-    taken(&[region(RESERVED, 3), region(MSI, 4), region(RESERVED, 2), region(RESERVED, 5)]);
-    taken(&[Region { subtype: MSI, start: u64::MAX, end: u64::MAX }]);
-    taken(&[Region { subtype: RESERVED, start: 0, end: u64::MAX }]);
-    taken(&[region(MSI, 8), region(RESERVED, 7)]);
 }
 
 /// A guest count of 0 or 5 is not good. With 0 a call under a guest's number is answered 1 first.

@@ -22,6 +22,7 @@ pub const TOP: u64 = u64::MAX;
 
 /// The lines that come most often.
 pub const OK: &str = "R 0 4 0";
+pub const UNSUPP: &str = "R 0 4 2";
 pub const INVAL: &str = "R 0 4 4";
 pub const RANGE: &str = "R 0 4 5";
 pub const NOENT: &str = "R 0 4 6";
