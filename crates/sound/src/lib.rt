@@ -1,6 +1,5 @@
 // The test that a state and a table are sound, and the test before a guest's job.
 mod checking;
-mod zeros;
 
 ghost use mathlib.Core.Path.{_≡_};
 ghost use Prim.Native.Nat.{ℕ, _≤_};
@@ -25,7 +24,7 @@ use rules::sizes::TABLE_WORDS;
 use sound_logs::faults_good;
 use sound_places::places_good;
 use sound_records::records_good;
-use zeros::zero_from;
+use sound_zeros::zero_from;
 
 // Whether the array has room for n endpoints.
 fn has_places(endpoints: &[u32], n: usize) -> bool
