@@ -59,7 +59,7 @@
 #define VIOMMU_PROPERTY_BYTES 24         /* bytes of a property that PROBE writes */
 #define VIOMMU_PROPERTIES_BYTES 128      /* bytes of all of them, with the zeros after the last */
 #define VIOMMU_PROBE_BYTES 132           /* bytes of PROBE's writable part: VIOMMU_PROPERTIES_BYTES + VIOMMU_STATUS_BYTES */
-#define VIOMMU_STACK_BYTES 12288         /* stack that is to be free for a call */
+#define VIOMMU_STACK_BYTES 32768         /* stack that is to be free for a call */
 
 /* NUMBERS: what a call gives back, and what it leaves behind */
 

@@ -28,7 +28,7 @@ static void with_two(const char *what, struct viommu_settings c, uint64_t subtyp
 static struct viommu_regions four(void)
 {
     return (struct viommu_regions){
-        4, {{RESERVED, 0x2000, 0x2fff}, {MSI, 0x3000, 0x3fff}, {RESERVED, 0, 0xfff}, {RESERVED, 0x1000, 0x1fff}}};
+        4, {{RESERVED, 0x2000, 0x2fff}, {MSI, 0x3000, 0x3fff}, {RESERVED, 0x800, 0xfff}, {RESERVED, 0x1000, 0x1fff}}};
 }
 
 /* Both endpoints have these regions: of different endpoints they may overlap, and be MSI. */

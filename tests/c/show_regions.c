@@ -10,7 +10,7 @@
 
 static const struct viommu_regions regions[4] = {
     {2, {{MSI, 0xfee00000, 0xfeefffff}, {RESERVED, 0x1000, 0x1000}}},
-    {1, {{RESERVED, 0x5800, 0x5fff}}},
+    {1, {{RESERVED, 0x5fff, 0x5fff}}},
     {0, {{0}}},
     {4,
      {{RESERVED, 0x3000, 0x3fff},

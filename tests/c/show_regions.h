@@ -8,7 +8,7 @@
 #define MSI VIOMMU_REGION_MSI
 
 /* The device, just set up: endpoints 8, 9 and 10 of guest 0, and endpoint 11 of guest 1. Endpoint 8 has an MSI region of
-   0xfee00000 to 0xfeefffff and then a region of address 0x1000 alone, endpoint 9 one of 0x5800 to 0x5fff, endpoint 10 none, and
+   0xfee00000 to 0xfeefffff and then a region of address 0x1000 alone, endpoint 9 one of 0x5fff alone, endpoint 10 none, and
    endpoint 11 four. */
 struct driver regions_start(void);
 

@@ -36,7 +36,7 @@ static void show_one(const char *what, struct driver d, uint64_t subtype, uint64
 static struct viommu_regions four(void)
 {
     return (struct viommu_regions){
-        4, {{RESERVED, 0x2000, 0x2fff}, {MSI, 0x4000, 0x4fff}, {RESERVED, 0, 0xfff}, {RESERVED, 0x5000, UINT64_MAX}}};
+        4, {{RESERVED, 0x2000, 0x2fff}, {MSI, 0x4000, 0x4fff}, {RESERVED, 0x10, 0xfff}, {RESERVED, 0x5000, UINT64_MAX}}};
 }
 
 /* "Soundness gains the same rule": no record overlaps a region of an endpoint in its domain. */
