@@ -28,7 +28,7 @@ pub fn of_second(device: &mut Device, call: &Record) -> Answer {
     let mut writable = [0; 4];
     let outcome = match call {
         Record::Request { guest, readable } => {
-            device.request(*guest, readable, &mut writable).map(|used| used as u64)
+            device.request(*guest, readable, &mut writable).map(|handled| handled.used as u64)
         }
         Record::Access { endpoint, address, direction } => {
             device.access(*endpoint, *address, *direction)

@@ -14,7 +14,7 @@ const PAGE: u64 = 0x1000;
 pub fn configuration() -> Configuration {
     let guest =
         |guest| GuestShare { share: 64, window: window(guest)..=window(guest) + 0xfff_ffff };
-    let entry = |place| ListedEndpoint { endpoint: endpoint(place), owner: owner(place) };
+    let entry = |place| ListedEndpoint::new(endpoint(place), owner(place));
     Configuration {
         guests: (0..GUESTS).map(guest).collect(),
         endpoints: (0..ENDPOINTS).map(entry).collect(),

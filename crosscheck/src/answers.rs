@@ -20,20 +20,49 @@ impl Refusal {
     }
 }
 
-/// The status byte of a handled request; IOERR, UNSUPP and DEVERR are never given.
+/// The status of a handled request; IOERR and DEVERR are never given.
 #[derive(Clone, Copy, Debug, PartialEq, Eq)]
 pub enum Status {
-    Ok = 0,
-    Inval = 4,
-    Range = 5,
-    Noent = 6,
-    Fault = 7,
-    Nomem = 8,
+    Ok,
+    Unsupp,
+    Inval(Inval),
+    Range,
+    Noent,
+    Fault,
+    Nomem,
+}
+
+/// What is wrong where the status is INVAL, which no byte tells: for counting alone.
+#[derive(Clone, Copy, Debug, PartialEq, Eq, PartialOrd, Ord)]
+pub enum Inval {
+    /// A reserved field that is not zero, or a flag that is not known.
+    Fields,
+    /// The endpoint is not attached to the domain.
+    NotAttached,
+    /// A record of the domain has one of the addresses.
+    Records,
+    /// A region of an endpoint in the domain has one of the addresses.
+    Regions,
 }
 
 impl Status {
-    /// The byte written at the front of the writable part.
+    /// The byte written into the tail.
     pub fn byte(self) -> u8 {
-        self as u8
+        match self {
+            Status::Ok => 0,
+            Status::Unsupp => 2,
+            Status::Inval(_) => 4,
+            Status::Range => 5,
+            Status::Noent => 6,
+            Status::Fault => 7,
+            Status::Nomem => 8,
+        }
     }
+}
+
+/// A request that was handled: the bytes written, and its status.
+#[derive(Clone, Copy, Debug, PartialEq, Eq)]
+pub struct Handled {
+    pub used: usize,
+    pub status: Status,
 }

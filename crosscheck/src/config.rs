@@ -1,6 +1,7 @@
 //! The configuration a set-up takes, and when it is good.
 
 use crate::numbers::{Endpoint, Guest};
+use crate::regions::{self, Region};
 use std::ops::RangeInclusive;
 
 /// The most guests, endpoints and records there can be.
@@ -15,11 +16,20 @@ pub struct GuestShare {
     pub window: RangeInclusive<u64>,
 }
 
-/// One entry of the endpoint list with its entry of the owner list.
-#[derive(Clone, Copy, Debug, PartialEq, Eq)]
+/// One entry of the endpoint list with its entry of the owner list, and the endpoint's reserved
+/// regions in set-up order.
+#[derive(Clone, Debug, PartialEq, Eq)]
 pub struct ListedEndpoint {
     pub endpoint: Endpoint,
     pub owner: Guest,
+    pub regions: Vec<Region>,
+}
+
+impl ListedEndpoint {
+    /// An endpoint without regions.
+    pub fn new(endpoint: Endpoint, owner: Guest) -> Self {
+        ListedEndpoint { endpoint, owner, regions: Vec::new() }
+    }
 }
 
 #[derive(Clone, Debug, PartialEq, Eq)]
@@ -72,13 +82,15 @@ impl Configuration {
         })
     }
 
-    /// At most 32 endpoints, each listed once and owned by a guest in use.
+    /// At most 32 endpoints, each listed once, owned by a guest in use, and with good regions.
     fn endpoints_are_good(&self) -> bool {
         let listed = &self.endpoints;
         listed.len() <= MOST_ENDPOINTS
             && listed.iter().enumerate().all(|(place, entry)| {
                 let earlier = listed[..place].iter().map(|other| other.endpoint);
-                entry.owner.place() < self.guests.len() && !is_among(entry.endpoint, earlier)
+                entry.owner.place() < self.guests.len()
+                    && !is_among(entry.endpoint, earlier)
+                    && regions::are_good(&entry.regions)
             })
     }
 }

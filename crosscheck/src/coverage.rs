@@ -1,16 +1,29 @@
-//! Counts of the answers met, to show that the journals reach all of them.
+//! Counts of the answers and regions met, to show that the journals reach all of them.
 
+mod regions;
+
+use crate::answers::{Inval, Status};
+use crate::compare::{Played, PlayedLine};
 use crate::journal::LineKind;
-use crate::requests::{ATTACH, DETACH, MAP, UNMAP};
+use crate::requests::{ATTACH, DETACH, MAP, PROBE, UNMAP};
 use std::collections::BTreeMap;
 use std::fmt::{Display, Formatter, Result};
 
+pub use regions::{RegionCoverage, GROUPS};
+
 /// The calls by the letter of their line, and the request types and statuses by name.
 const LETTERS: [&str; 5] = ["S", "R", "Z", "F", "A"];
-const REQUESTS: [(u8, &str); 4] =
-    [(ATTACH, "ATTACH"), (DETACH, "DETACH"), (MAP, "MAP"), (UNMAP, "UNMAP")];
-const STATUSES: [(u8, &str); 6] =
-    [(0, "OK"), (4, "INVAL"), (5, "RANGE"), (6, "NOENT"), (7, "FAULT"), (8, "NOMEM")];
+const REQUESTS: [(u8, &str); 5] =
+    [(ATTACH, "ATTACH"), (DETACH, "DETACH"), (MAP, "MAP"), (UNMAP, "UNMAP"), (PROBE, "PROBE")];
+const STATUSES: [(u8, &str); 7] = [
+    (0, "OK"),
+    (2, "UNSUPP"),
+    (4, "INVAL"),
+    (5, "RANGE"),
+    (6, "NOENT"),
+    (7, "FAULT"),
+    (8, "NOMEM"),
+];
 
 #[derive(Default)]
 pub struct Coverage {
@@ -18,18 +31,32 @@ pub struct Coverage {
     numbers: BTreeMap<(String, u8), u64>,
     /// How often each status came for each request type.
     statuses: BTreeMap<(u8, u8), u64>,
+    /// How often MAP was answered INVAL for each cause.
+    map_invals: BTreeMap<Inval, u64>,
+    properties: u64,
     fault_records: u64,
     ends: u64,
     bad_journals: u64,
+    regions: RegionCoverage,
 }
 
 impl Coverage {
+    /// Counts a journal's regions and the lines that the second program prints for it.
+    pub fn add_played(&mut self, journal: &[u8], played: &Played) {
+        let bad = |line: &PlayedLine| line.text.strip_prefix("bad journal at ")?.parse().ok();
+        self.regions.add(journal, played.lines.last().and_then(bad));
+        for line in &played.lines {
+            self.add(line.kind, &line.text);
+        }
+    }
+
     /// Counts one line.
-    pub fn add(&mut self, kind: LineKind, text: &str) {
+    fn add(&mut self, kind: LineKind, text: &str) {
         match kind {
             LineKind::End => self.ends += 1,
             LineKind::BadJournal => self.bad_journals += 1,
             LineKind::FaultRecord => self.fault_records += 1,
+            LineKind::Properties => self.properties += 1,
             _ => self.add_answer(kind, text),
         }
     }
@@ -39,10 +66,22 @@ impl Coverage {
         let words: Vec<&str> = text.split(' ').collect();
         let number = words[1].parse().expect("a call's line gives a number");
         *self.numbers.entry((words[0].to_string(), number)).or_default() += 1;
-        if let (LineKind::Request(request_type), 0) = (kind, number) {
-            let status = words[3].parse().expect("a handled request has a status");
-            *self.statuses.entry((request_type, status)).or_default() += 1;
+        if let LineKind::Request(request_type, Some(status)) = kind {
+            *self.statuses.entry((request_type, status.byte())).or_default() += 1;
+            if let (MAP, Status::Inval(cause)) = (request_type, status) {
+                *self.map_invals.entry(cause).or_default() += 1;
+            }
         }
+    }
+
+    /// How often MAP was answered INVAL for this cause.
+    pub fn map_inval(&self, cause: Inval) -> u64 {
+        self.map_invals.get(&cause).copied().unwrap_or(0)
+    }
+
+    /// How many lines of properties came.
+    pub fn properties(&self) -> u64 {
+        self.properties
     }
 
     /// How often this number came on lines of this letter.
@@ -53,6 +92,11 @@ impl Coverage {
     /// How often this status came for this request type.
     pub fn status(&self, request_type: u8, status: u8) -> u64 {
         self.statuses.get(&(request_type, status)).copied().unwrap_or(0)
+    }
+
+    /// The counts of regions.
+    pub fn regions(&self) -> &RegionCoverage {
+        &self.regions
     }
 
     pub fn bad_journals(&self) -> u64 {
@@ -79,7 +123,12 @@ impl Display for Coverage {
             }
             writeln!(out)?;
         }
-        writeln!(out, "fault records  {}", self.fault_records)?;
+        let causes =
+            [Inval::Fields, Inval::Records, Inval::Regions].map(|cause| self.map_inval(cause));
+        let [fields, records, regions] = causes;
+        writeln!(out, "INVAL of MAP  flags: {fields}  records: {records}  regions: {regions}")?;
+        writeln!(out, "fault records  {}, properties  {}", self.fault_records, self.properties)?;
+        write!(out, "{}", self.regions)?;
         write!(out, "read to the end  {}, bad journals  {}", self.ends, self.bad_journals)
     }
 }

@@ -5,8 +5,10 @@ mod calls;
 mod damage;
 mod edges;
 mod flood;
+mod layouts;
 mod pairs;
 mod refused;
+mod regions;
 mod setup;
 
 use crate::config::Configuration;
@@ -66,14 +68,29 @@ fn mixed(random: &mut Random) -> Vec<Record> {
     records
 }
 
-/// The records of a set-up; the two lists may be mixed, each in its own order.
+/// The records of a set-up; the lists may be mixed.
 fn set_up(random: &mut Random, configuration: &Configuration) -> Vec<Record> {
     let mut records = record::lists(configuration);
     if random.chance(30) {
-        let endpoints = records.split_off(configuration.guests.len());
-        records = merge(random, records, endpoints);
+        records = mixed_lists(random, configuration);
     }
     records.push(record::start(configuration));
+    records
+}
+
+/// The records of guests and of endpoints mixed, each in their own order, and an endpoint's regions
+/// in theirs anywhere after it.
+fn mixed_lists(random: &mut Random, configuration: &Configuration) -> Vec<Record> {
+    let mut guests = record::lists(configuration);
+    let mut endpoints = guests.split_off(configuration.guests.len());
+    endpoints.truncate(configuration.endpoints.len());
+    let mut records = merge(random, guests, endpoints);
+    for entry in &configuration.endpoints {
+        let named = records.iter().position(|record| record.names(entry.endpoint));
+        let after = named.map_or(records.len(), |place| place + 1);
+        let rest = records.split_off(after);
+        records.extend(merge(random, rest, record::regions(entry).collect()));
+    }
     records
 }
 

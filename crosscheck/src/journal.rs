@@ -1,5 +1,6 @@
 //! A journal read record by record, and the lines that answer it.
 
+use crate::answers::Status;
 use crate::device::Device;
 use crate::numbers::Guest;
 use crate::player::Player;
@@ -10,25 +11,29 @@ use std::io::{self, ErrorKind, Read};
 pub const GUEST: u8 = 0x01;
 pub const ENDPOINT: u8 = 0x02;
 pub const START: u8 = 0x03;
+pub const REGION: u8 = 0x04;
 pub const REQUEST_20: u8 = 0x11;
 pub const REQUEST_28: u8 = 0x12;
 pub const REQUEST_36: u8 = 0x13;
+pub const REQUEST_72: u8 = 0x14;
 pub const ACCESS: u8 = 0x21;
 pub const RESET: u8 = 0x22;
 pub const FETCH: u8 = 0x23;
 
-/// The longest body: a guest number and 36 request bytes.
-const LONGEST_BODY: usize = 37;
+/// The longest body: a guest number and 72 request bytes.
+const LONGEST_BODY: usize = 73;
 
 /// The bytes after the kind byte, if the kind is known.
-fn body_bytes(kind: u8) -> Option<usize> {
+pub fn body_bytes(kind: u8) -> Option<usize> {
     match kind {
         GUEST => Some(2 + 8 + 8),
         ENDPOINT => Some(4 + 1),
         START => Some(8 + 8 + 8 + 4 + 4),
+        REGION => Some(4 + 1 + 8 + 8),
         REQUEST_20 => Some(1 + 20),
         REQUEST_28 => Some(1 + 28),
         REQUEST_36 => Some(1 + 36),
+        REQUEST_72 => Some(1 + 72),
         ACCESS => Some(4 + 8 + 1),
         RESET => Some(1),
         FETCH => Some(1 + 1),
@@ -40,8 +45,10 @@ fn body_bytes(kind: u8) -> Option<usize> {
 #[derive(Clone, Copy, Debug, PartialEq, Eq)]
 pub enum LineKind {
     Start,
-    /// A request, with its type byte.
-    Request(u8),
+    /// A request, with its type byte and, where it was handled, its status.
+    Request(u8, Option<Status>),
+    /// The properties after a PROBE's line.
+    Properties,
     Access,
     Reset,
     Fetch,

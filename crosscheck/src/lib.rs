@@ -1,5 +1,5 @@
-//! A second program for the device side of virtio-iommu, written from document 01 alone,
-//! and the means to compare another program with it journal by journal.
+//! A second program for the device side of virtio-iommu, written from documents 01 and 02
+//! alone, and the means to compare another program with it journal by journal.
 
 pub mod access;
 pub mod answers;
@@ -17,10 +17,13 @@ pub mod long_journal;
 pub mod numbers;
 pub mod places;
 pub mod player;
+pub mod probe;
 pub mod program;
 pub mod random;
 pub mod record;
+pub mod regions;
 pub mod requests;
+pub mod reserved;
 pub mod run;
 pub mod sound;
 pub mod table;

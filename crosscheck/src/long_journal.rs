@@ -159,9 +159,8 @@ impl Iterator for LongJournal {
 fn configuration() -> Configuration {
     let guest =
         |guest| GuestShare { share: SHARE, window: window(guest)..=window(guest) + 0xfff_ffff };
-    let entry = |place| ListedEndpoint {
-        endpoint: Endpoint(FIRST_ENDPOINT + place),
-        owner: Guest((place % GUESTS) as u8),
+    let entry = |place| {
+        ListedEndpoint::new(Endpoint(FIRST_ENDPOINT + place), Guest((place % GUESTS) as u8))
     };
     Configuration {
         guests: (0..GUESTS).map(guest).collect(),

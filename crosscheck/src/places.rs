@@ -9,10 +9,12 @@ use crate::faults::{Direction, Reason, LOG_PLACES, READ, WRITE};
 use crate::numbers::Endpoint;
 
 mod of_device;
+mod regions;
 #[cfg(test)]
 mod tests;
 
 pub use of_device::table_of;
+pub use regions::{ALL_REGION_WORDS, ENDPOINT_REGION_WORDS};
 
 /// The words of a record, and of the table.
 pub const RECORD_WORDS: usize = 5;
@@ -61,6 +63,8 @@ pub struct State {
     /// 1 where the endpoint is attached, else 0.
     pub attached: [u8; MOST_ENDPOINTS],
     pub domains: [u32; MOST_ENDPOINTS],
+    /// For each endpoint the number of its regions, then subtype, start and end of each.
+    pub regions: [u64; ALL_REGION_WORDS],
     pub live: usize,
     pub logged: [usize; MOST_GUESTS],
     pub lost: [u32; MOST_GUESTS],
@@ -79,8 +83,10 @@ impl State {
             && self.settings.are_good()
             && (0..MOST_GUESTS).all(|guest| self.guest_is_sound(guest))
             && (0..MOST_ENDPOINTS).all(|place| self.endpoint_is_sound(place))
+            && self.regions_are_sound()
             && (0..MOST_GUESTS).all(|guest| self.log_is_sound(guest))
             && self.records_are_sound(table)
+            && self.records_keep_off(table)
     }
 
     /// A guest in use has counts within their limits; the place of one that is not is zero.

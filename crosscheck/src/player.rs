@@ -1,21 +1,23 @@
 //! What each journal record does and prints.
 
-use crate::answers::Refusal;
-use crate::config::{Configuration, GuestShare, ListedEndpoint, MOST_ENDPOINTS, MOST_GUESTS};
+mod lists;
+
+use crate::answers::{Handled, Refusal};
+use crate::config::Configuration;
 use crate::device::Device;
 use crate::faults::{Direction, FAULT_BYTES, LOG_PLACES};
 use crate::fields::Fields;
 use crate::journal::{self, Line, LineKind};
 use crate::numbers::{Endpoint, Guest};
-use crate::requests::WRITABLE_BYTES;
+use crate::requests::{PROBE_BYTES, TAIL_BYTES};
 use crate::sound::SoundnessTest;
+use lists::Lists;
 use std::fmt::{Arguments, Write};
 use std::io;
 
 /// A journal under way: the set-up gathered so far, and the device from the start on.
 pub struct Player<P> {
-    guests: Vec<GuestShare>,
-    endpoints: Vec<ListedEndpoint>,
+    lists: Lists,
     device: Option<Device>,
     soundness_test: SoundnessTest,
     text: String,
@@ -24,14 +26,7 @@ pub struct Player<P> {
 
 impl<P: FnMut(Line) -> io::Result<()>> Player<P> {
     pub fn new(soundness_test: SoundnessTest, print: P) -> Self {
-        Player {
-            guests: Vec::new(),
-            endpoints: Vec::new(),
-            device: None,
-            soundness_test,
-            text: String::new(),
-            print,
-        }
+        Player { lists: Lists::default(), device: None, soundness_test, text: String::new(), print }
     }
 
     /// The device as the journal left it; without a start it has every number zero.
@@ -50,10 +45,14 @@ impl<P: FnMut(Line) -> io::Result<()>> Player<P> {
     pub fn play(&mut self, kind: u8, body: &[u8]) -> io::Result<bool> {
         let fields = Fields::new(body);
         match kind {
-            journal::GUEST => Ok(self.guest(fields)),
-            journal::ENDPOINT => Ok(self.endpoint(fields)),
+            journal::GUEST => Ok(self.device.is_none() && self.lists.guest(fields)),
+            journal::ENDPOINT => Ok(self.device.is_none() && self.lists.endpoint(fields)),
+            journal::REGION => Ok(self.device.is_none() && self.lists.region(fields)),
             journal::START => self.start(fields),
-            journal::REQUEST_20 | journal::REQUEST_28 | journal::REQUEST_36 => self.request(fields),
+            journal::REQUEST_20 | journal::REQUEST_28 | journal::REQUEST_36 => {
+                self.request(fields, TAIL_BYTES)
+            }
+            journal::REQUEST_72 => self.request(fields, PROBE_BYTES),
             journal::ACCESS => self.access(fields),
             journal::RESET => self.reset(fields),
             journal::FETCH => self.fetch(fields),
@@ -61,36 +60,15 @@ impl<P: FnMut(Line) -> io::Result<()>> Player<P> {
         }
     }
 
-    /// Share 2, window 8 + 8; bad after the start, and as a fifth guest.
-    fn guest(&mut self, mut fields: Fields) -> bool {
-        let taken = self.device.is_none() && self.guests.len() < MOST_GUESTS;
-        if taken {
-            let share = fields.u16();
-            let window = fields.u64()..=fields.u64();
-            self.guests.push(GuestShare { share, window });
-        }
-        taken
-    }
-
-    /// Number 4, owner 1; bad after the start, and as a 33rd endpoint.
-    fn endpoint(&mut self, mut fields: Fields) -> bool {
-        let taken = self.device.is_none() && self.endpoints.len() < MOST_ENDPOINTS;
-        if taken {
-            let endpoint = Endpoint(fields.u32());
-            let owner = Guest(fields.u8());
-            self.endpoints.push(ListedEndpoint { endpoint, owner });
-        }
-        taken
-    }
-
     /// Mask 8, input range 8 + 8, domain range 4 + 4; a refused start is a start too.
     fn start(&mut self, mut fields: Fields) -> io::Result<bool> {
         if self.device.is_some() {
             return Ok(false);
         }
+        let Lists { guests, endpoints } = std::mem::take(&mut self.lists);
         let set_up = Device::set_up(Configuration {
-            guests: std::mem::take(&mut self.guests),
-            endpoints: std::mem::take(&mut self.endpoints),
+            guests,
+            endpoints,
             page_size_mask: fields.u64(),
             input_range: fields.u64()..=fields.u64(),
             domain_range: fields.u32()..=fields.u32(),
@@ -102,20 +80,31 @@ impl<P: FnMut(Line) -> io::Result<()>> Player<P> {
         Ok(true)
     }
 
-    /// Guest 1, then the request bytes.
-    fn request(&mut self, mut fields: Fields) -> io::Result<bool> {
+    /// Guest 1, then the request bytes; the writable part has this many bytes, which are not zero
+    /// before, so that what is left of them shows. After a handled PROBE its properties come on a
+    /// line of 256 hex digits, be the status OK or NOENT.
+    fn request(&mut self, mut fields: Fields, writable_bytes: usize) -> io::Result<bool> {
         let Some(device) = &mut self.device else {
             return Ok(false);
         };
         let guest = Guest(fields.u8());
         let readable = fields.rest();
-        let mut writable = [0; WRITABLE_BYTES];
-        let outcome = device.request(guest, readable, &mut writable);
-        let kind = LineKind::Request(readable[0]);
+        let mut writable = [0xee; PROBE_BYTES];
+        let writable = &mut writable[..writable_bytes];
+        let outcome = device.request(guest, readable, writable);
+        let kind = LineKind::Request(readable[0], outcome.ok().map(|handled| handled.status));
         let owner = caller(guest, &outcome);
-        match outcome {
-            Ok(used) => self.say(kind, owner, format_args!("R 0 {used} {}", writable[0]))?,
-            Err(refusal) => self.say(kind, owner, format_args!("R {} 0 -", refusal.number()))?,
+        let Handled { used, .. } = match outcome {
+            Ok(handled) => handled,
+            Err(refusal) => {
+                self.say(kind, owner, format_args!("R {} 0 -", refusal.number()))?;
+                return Ok(true);
+            }
+        };
+        let (properties, tail) = writable.split_at(writable_bytes - TAIL_BYTES);
+        self.say(kind, owner, format_args!("R 0 {used} {}", tail[0]))?;
+        if !properties.is_empty() {
+            self.say(LineKind::Properties, owner, format_args!("{}", hex(properties)))?;
         }
         Ok(true)
     }
@@ -181,17 +170,16 @@ impl<P: FnMut(Line) -> io::Result<()>> Player<P> {
     fn fetched(&mut self, owner: Option<Guest>, count: usize, buffer: &[u8]) -> io::Result<()> {
         self.say(LineKind::Fetch, owner, format_args!("F 0 {count}"))?;
         for fault in buffer.chunks_exact(FAULT_BYTES).take(count) {
-            let halves = fault.iter().flat_map(|byte| [byte >> 4, byte & 15]);
-            let digits: String = halves.map(hex_digit).collect();
-            self.say(LineKind::FaultRecord, owner, format_args!("{digits}"))?;
+            self.say(LineKind::FaultRecord, owner, format_args!("{}", hex(fault)))?;
         }
         Ok(())
     }
 }
 
-/// The lowercase digit of a number below 16.
-fn hex_digit(half: u8) -> char {
-    char::from(b"0123456789abcdef"[usize::from(half)])
+/// Two lowercase digits for each byte.
+fn hex(bytes: &[u8]) -> String {
+    let halves = bytes.iter().flat_map(|byte| [byte >> 4, byte & 15]);
+    halves.map(|half| char::from(b"0123456789abcdef"[usize::from(half)])).collect()
 }
 
 /// The number of an outcome: 0 when done.

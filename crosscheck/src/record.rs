@@ -1,10 +1,11 @@
 //! Journal records as values, and the bytes they are written as.
 
-use crate::config::Configuration;
+use crate::config::{Configuration, ListedEndpoint};
 use crate::faults::Direction;
 use crate::journal;
 use crate::numbers::{Domain, Endpoint, Guest};
-use crate::requests::{ATTACH, DETACH, MAP, UNMAP};
+use crate::regions::Region;
+use crate::requests::{ATTACH, DETACH, MAP, PROBE, UNMAP};
 
 #[derive(Clone, Debug, PartialEq, Eq)]
 pub enum Record {
@@ -17,12 +18,17 @@ pub enum Record {
         endpoint: Endpoint,
         owner: Guest,
     },
+    /// A reserved region of the endpoint of this number.
+    Region {
+        endpoint: Endpoint,
+        region: Region,
+    },
     Start {
         mask: u64,
         input: (u64, u64),
         domains: (u32, u32),
     },
-    /// The readable part has 20, 28 or 36 bytes.
+    /// The readable part has 20, 28, 36 or 72 bytes.
     Request {
         guest: Guest,
         readable: Vec<u8>,
@@ -92,6 +98,14 @@ impl Record {
         Record::Request { guest, readable }
     }
 
+    /// PROBE with zeros in the 64 bytes that are ignored.
+    pub fn probe(guest: Guest, endpoint: Endpoint) -> Self {
+        let mut readable = vec![PROBE, 0, 0, 0];
+        readable.extend(endpoint.0.to_le_bytes());
+        readable.resize(72, 0);
+        Record::Request { guest, readable }
+    }
+
     pub fn read(endpoint: Endpoint, address: u64) -> Self {
         Record::Access { endpoint, address, direction: Direction::Read }
     }
@@ -104,6 +118,11 @@ impl Record {
     pub fn is_call(&self) -> bool {
         use Record::{Access, Fetch, Request, Reset};
         matches!(self, Request { .. } | Access { .. } | Reset { .. } | Fetch { .. })
+    }
+
+    /// Whether the record names an endpoint of this number.
+    pub fn names(&self, number: Endpoint) -> bool {
+        matches!(self, Record::Endpoint { endpoint, .. } if *endpoint == number)
     }
 
     /// Writes the kind byte and the body.
@@ -119,6 +138,13 @@ impl Record {
                 out.push(journal::ENDPOINT);
                 out.extend(endpoint.0.to_le_bytes());
                 out.push(owner.0);
+            }
+            Record::Region { endpoint, region } => {
+                out.push(journal::REGION);
+                out.extend(endpoint.0.to_le_bytes());
+                out.push(region.subtype);
+                out.extend(region.start.to_le_bytes());
+                out.extend(region.end.to_le_bytes());
             }
             Record::Start { mask, input, domains } => encode_start(out, *mask, *input, *domains),
             Record::Request { guest, readable } => {
@@ -154,11 +180,12 @@ fn request_kind(length: usize) -> u8 {
         20 => journal::REQUEST_20,
         28 => journal::REQUEST_28,
         36 => journal::REQUEST_36,
+        72 => journal::REQUEST_72,
         _ => panic!("a request of {length} bytes has no journal record"),
     }
 }
 
-/// The guest and endpoint records of a configuration, guests first.
+/// The records of a configuration's guests, of its endpoints, and of their regions, in this order.
 pub fn lists(configuration: &Configuration) -> Vec<Record> {
     let guests = configuration.guests.iter().map(|guest| Record::Guest {
         share: guest.share,
@@ -169,7 +196,13 @@ pub fn lists(configuration: &Configuration) -> Vec<Record> {
         .endpoints
         .iter()
         .map(|entry| Record::Endpoint { endpoint: entry.endpoint, owner: entry.owner });
-    guests.chain(endpoints).collect()
+    guests.chain(endpoints).chain(configuration.endpoints.iter().flat_map(regions)).collect()
+}
+
+/// The records of an endpoint's regions.
+pub fn regions(entry: &ListedEndpoint) -> impl Iterator<Item = Record> + '_ {
+    let endpoint = entry.endpoint;
+    entry.regions.iter().map(move |region| Record::Region { endpoint, region: *region })
 }
 
 /// The start record of a configuration.

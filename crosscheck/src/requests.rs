@@ -1,10 +1,11 @@
-//! The four requests: their layouts and what each does, first failing step first.
+//! The five requests: their lengths, and what each but PROBE does, first failing step first.
 
-use crate::answers::{Refusal, Status};
+use crate::answers::{Handled, Inval, Refusal, Status};
 use crate::device::Device;
 use crate::faults::{READ, WRITE};
 use crate::fields::Fields;
 use crate::numbers::{Domain, Endpoint, Guest};
+use crate::probe::PROPERTIES_BYTES;
 use crate::table::Mapping;
 
 /// The request types.
@@ -12,17 +13,22 @@ pub const ATTACH: u8 = 1;
 pub const DETACH: u8 = 2;
 pub const MAP: u8 = 3;
 pub const UNMAP: u8 = 4;
+pub const PROBE: u8 = 5;
 
-/// The bytes of the head and of the writable part.
+/// The bytes of the head of the readable part, and of the tail of the writable part: a status and
+/// three zeros.
 const HEAD_BYTES: usize = 4;
-pub const WRITABLE_BYTES: usize = 4;
+pub const TAIL_BYTES: usize = 4;
+/// The bytes of the writable part of PROBE.
+pub const PROBE_BYTES: usize = PROPERTIES_BYTES + TAIL_BYTES;
 
-/// The bytes of the readable part of a type, if it is one of the four.
-pub fn readable_bytes(request_type: u8) -> Option<usize> {
+/// The bytes of the readable and of the writable part of a type, if it is one of the five.
+pub fn lengths(request_type: u8) -> Option<(usize, usize)> {
     match request_type {
-        ATTACH | DETACH => Some(20),
-        MAP => Some(36),
-        UNMAP => Some(28),
+        ATTACH | DETACH => Some((20, TAIL_BYTES)),
+        MAP => Some((36, TAIL_BYTES)),
+        UNMAP => Some((28, TAIL_BYTES)),
+        PROBE => Some((72, PROBE_BYTES)),
         _ => None,
     }
 }
@@ -43,29 +49,34 @@ struct Unmapping {
 }
 
 impl Device {
-    /// Handles one request: writes its status and gives the used length.
+    /// Handles one request: writes its properties, if it has any, and its status.
     pub fn request(
         &mut self,
         guest: Guest,
         readable: &[u8],
         writable: &mut [u8],
-    ) -> Result<usize, Refusal> {
+    ) -> Result<Handled, Refusal> {
         self.check_guest(guest)?;
         self.check_sound()?;
         if readable.len() < HEAD_BYTES {
             return Err(Refusal::WrongLength);
         }
-        let length = readable_bytes(readable[0]).ok_or(Refusal::UnknownType)?;
-        if readable.len() != length || writable.len() != WRITABLE_BYTES {
+        let (to_read, to_write) = lengths(readable[0]).ok_or(Refusal::UnknownType)?;
+        if (readable.len(), writable.len()) != (to_read, to_write) {
             return Err(Refusal::WrongLength);
         }
-        let outcome = self.dispatch(guest, readable[0], Fields::new(&readable[HEAD_BYTES..]));
+        let (properties, tail) = writable.split_at_mut(to_write - TAIL_BYTES);
+        let fields = Fields::new(&readable[HEAD_BYTES..]);
+        let outcome = match readable[0] {
+            PROBE => self.probe(guest, fields, properties),
+            kind => self.dispatch(guest, kind, fields),
+        };
         let status = outcome.err().unwrap_or(Status::Ok);
-        writable.copy_from_slice(&[status.byte(), 0, 0, 0]);
-        Ok(WRITABLE_BYTES)
+        tail.copy_from_slice(&[status.byte(), 0, 0, 0]);
+        Ok(Handled { used: to_write, status })
     }
 
-    /// Takes the fields of a request of known type and length, and does it.
+    /// Takes the fields of a request that names a domain, and does it.
     fn dispatch(&mut self, guest: Guest, kind: u8, mut fields: Fields) -> Result<(), Status> {
         let domain = Domain(fields.u32());
         match kind {
@@ -78,16 +89,21 @@ impl Device {
 
     fn attach(&mut self, guest: Guest, request: Attachment) -> Result<(), Status> {
         if request.reserved != 0 {
-            return Err(Status::Inval);
+            return Err(Status::Inval(Inval::Fields));
         }
         let place = self.own_endpoint(guest, request.endpoint)?;
         if !self.configuration.domain_range.contains(&request.domain.0) {
             return Err(Status::Range);
         }
-        match self.attached[place] {
-            Some(domain) if domain == request.domain => return Ok(()),
-            Some(domain) => self.leave(guest, place, domain),
-            None => {}
+        let before = self.attached[place];
+        if before == Some(request.domain) {
+            return Ok(());
+        }
+        if !self.records_keep_off(place, request.domain) {
+            return Err(Status::Unsupp);
+        }
+        if let Some(domain) = before {
+            self.leave(guest, place, domain);
         }
         self.attached[place] = Some(request.domain);
         Ok(())
@@ -95,11 +111,11 @@ impl Device {
 
     fn detach(&mut self, guest: Guest, request: Attachment) -> Result<(), Status> {
         if request.reserved != 0 {
-            return Err(Status::Inval);
+            return Err(Status::Inval(Inval::Fields));
         }
         let place = self.own_endpoint(guest, request.endpoint)?;
         if self.attached[place] != Some(request.domain) {
-            return Err(Status::Inval);
+            return Err(Status::Inval(Inval::NotAttached));
         }
         self.leave(guest, place, request.domain);
         Ok(())
@@ -111,7 +127,7 @@ impl Device {
             return Err(Status::Noent);
         }
         if !flags_are_known(flags) {
-            return Err(Status::Inval);
+            return Err(Status::Inval(Inval::Fields));
         }
         if !self.range_can_be_mapped(virt_start, virt_end) {
             return Err(Status::Range);
@@ -120,7 +136,10 @@ impl Device {
             return Err(Status::Fault);
         }
         if self.table.overlaps(guest, domain, &(virt_start..=virt_end)) {
-            return Err(Status::Inval);
+            return Err(Status::Inval(Inval::Records));
+        }
+        if self.meets_a_region(&mapping) {
+            return Err(Status::Inval(Inval::Regions));
         }
         let share = usize::from(self.configuration.guests[guest.place()].share);
         if self.table.of_guest(guest).len() >= share {
@@ -135,7 +154,7 @@ impl Device {
             return Err(Status::Noent);
         }
         if request.reserved != 0 {
-            return Err(Status::Inval);
+            return Err(Status::Inval(Inval::Fields));
         }
         let range = request.virt_start..=request.virt_end;
         if range.end() < range.start() || self.table.straddles(guest, request.domain, &range) {
@@ -167,7 +186,7 @@ impl Device {
     }
 
     /// The place of an endpoint of this guest; one of another guest looks like an unlisted one.
-    fn own_endpoint(&self, guest: Guest, endpoint: Endpoint) -> Result<usize, Status> {
+    pub(crate) fn own_endpoint(&self, guest: Guest, endpoint: Endpoint) -> Result<usize, Status> {
         let own = |place: &usize| self.configuration.endpoints[*place].owner == guest;
         self.place_of(endpoint).filter(own).ok_or(Status::Noent)
     }

@@ -71,9 +71,7 @@ impl Run {
     fn single(&mut self, made: &Made) -> io::Result<(Played, String)> {
         let played = play(made.bytes);
         self.journals += 1;
-        for line in &played.lines {
-            self.coverage.add(line.kind, &line.text);
-        }
+        self.coverage.add_played(made.bytes, &played);
         let expected = played.output();
         let Some(program) = &self.program else {
             return Ok((played, expected));

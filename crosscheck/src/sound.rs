@@ -45,6 +45,7 @@ impl Device {
         self.configuration.is_good()
             && self.attachments_are_sound()
             && self.records_are_sound()
+            && self.all_records_keep_off()
             && self.logs_are_sound()
     }
 

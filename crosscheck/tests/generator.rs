@@ -1,13 +1,14 @@
 //! The generator's journals: the same for the same seed, pairs that are pairs, every answer met.
 
+use crosscheck::answers::Inval;
 use crosscheck::compare::{play, Played};
-use crosscheck::coverage::Coverage;
+use crosscheck::coverage::{Coverage, GROUPS};
 use crosscheck::generate::{case, Case};
 use crosscheck::journal;
 use crosscheck::long_journal::LongJournal;
 use crosscheck::numbers::Guest;
 use crosscheck::record::{journal_of, Record};
-use crosscheck::requests::{ATTACH, DETACH, MAP, UNMAP};
+use crosscheck::requests::{ATTACH, DETACH, MAP, PROBE, UNMAP};
 use std::collections::HashMap;
 
 fn journals_of(case: Case) -> Vec<Vec<u8>> {
@@ -23,9 +24,11 @@ fn record_length(kind: u8) -> Option<usize> {
         journal::GUEST => Some(19),
         journal::ENDPOINT => Some(6),
         journal::START => Some(33),
+        journal::REGION => Some(22),
         journal::REQUEST_20 => Some(22),
         journal::REQUEST_28 => Some(30),
         journal::REQUEST_36 => Some(38),
+        journal::REQUEST_72 => Some(74),
         journal::ACCESS => Some(14),
         journal::RESET => Some(2),
         journal::FETCH => Some(3),
@@ -55,7 +58,7 @@ fn set_up_and_own_calls(journal: &[u8], guest: Guest) -> (Vec<&[u8]>, Vec<&[u8]>
     assert!(rest.is_empty(), "a pair's journals are whole");
     for record in records {
         let caller = match record[0] {
-            journal::GUEST | journal::ENDPOINT | journal::START => {
+            journal::GUEST | journal::ENDPOINT | journal::START | journal::REGION => {
                 if record[0] == journal::ENDPOINT {
                     owners.insert(&record[1..5], record[5]);
                 }
@@ -149,7 +152,7 @@ fn any_byte_is_a_guest_or_an_owner() {
         for record in split(&journal).0 {
             match record[0] {
                 journal::ENDPOINT => owners[usize::from(record[5])] += 1,
-                journal::GUEST | journal::START | journal::ACCESS => {}
+                journal::GUEST | journal::START | journal::REGION | journal::ACCESS => {}
                 _ => guests[usize::from(record[1])] += 1,
             }
         }
@@ -163,15 +166,14 @@ fn any_byte_is_a_guest_or_an_owner() {
     }
 }
 
-/// Every number and every status that a journal can reach comes at least fifty times.
+/// Every number and every status that a journal can reach comes at least fifty times, and every case
+/// of regions ten times.
 #[test]
 fn every_answer_is_met_often() {
     let mut coverage = Coverage::default();
     for index in 0..2000 {
         for journal in journals_of(case(9, index)) {
-            for line in play(&journal).lines {
-                coverage.add(line.kind, &line.text);
-            }
+            coverage.add_played(&journal, &play(&journal));
         }
     }
     let numbers: [(&str, &[u8]); 5] = [
@@ -187,11 +189,12 @@ fn every_answer_is_met_often() {
             assert!(count >= 50, "{letter} {number} came {count} times");
         }
     }
-    let statuses: [(u8, &[u8]); 4] = [
-        (ATTACH, &[0, 4, 5, 6]),
+    let statuses: [(u8, &[u8]); 5] = [
+        (ATTACH, &[0, 2, 4, 5, 6]),
         (DETACH, &[0, 4, 6]),
         (MAP, &[0, 4, 5, 6, 7, 8]),
         (UNMAP, &[0, 4, 5, 6]),
+        (PROBE, &[0, 6]),
     ];
     for (request_type, statuses) in statuses {
         for &status in statuses {
@@ -199,7 +202,33 @@ fn every_answer_is_met_often() {
             assert!(count >= 50, "type {request_type} was answered {status} {count} times");
         }
     }
+    for cause in [Inval::Fields, Inval::Records, Inval::Regions] {
+        let count = coverage.map_inval(cause);
+        assert!(count >= 50, "MAP was answered INVAL by {cause:?} {count} times");
+    }
+    assert_eq!(coverage.properties(), coverage.status(PROBE, 0) + coverage.status(PROBE, 6));
     assert!(coverage.bad_journals() >= 50, "{} bad journals", coverage.bad_journals());
+    let cases = GROUPS.iter().flat_map(|(_, cases)| cases.iter());
+    for case in cases {
+        let count = coverage.regions().count(case);
+        assert!(count >= 10, "regions: {case} came {count} times");
+    }
+}
+
+/// Six in ten of the journals that have regions, which may stand anywhere after their endpoint.
+#[test]
+fn most_set_ups_with_regions_are_accepted() {
+    let (mut with_regions, mut accepted, mut mixed) = (0, 0, 0);
+    for journal in (0..1000).flat_map(|index| journals_of(case(12, index))) {
+        let kinds: Vec<u8> = split(&journal).0.iter().map(|record| record[0]).collect();
+        let first = kinds.iter().position(|kind| *kind == journal::REGION);
+        let Some(first) = first else { continue };
+        with_regions += 1;
+        accepted += usize::from(play(&journal).texts()[0] == "S 0");
+        mixed += usize::from(kinds[first..].contains(&journal::ENDPOINT));
+    }
+    let counts = (with_regions, accepted, mixed);
+    assert!(with_regions > 300 && accepted * 10 > with_regions * 6 && mixed > 50, "{counts:?}");
 }
 
 /// A long journal is read to its end, and has about as many live records as were asked for.

@@ -9,11 +9,16 @@ pub fn page(configuration: &Configuration) -> u64 {
     1 << configuration.page_size_mask.trailing_zeros()
 }
 
+/// The first address of the first whole page of the input range.
+pub fn first_page(configuration: &Configuration) -> u64 {
+    let page = page(configuration);
+    configuration.input_range.start().div_ceil(page).wrapping_mul(page)
+}
+
 /// The first address of a page near the start of the input range.
 fn page_start(random: &mut Random, configuration: &Configuration) -> u64 {
-    let page = page(configuration);
-    let first = configuration.input_range.start().div_ceil(page).wrapping_mul(page);
-    first.wrapping_add(random.below(12).wrapping_mul(page))
+    let pages = random.below(12).wrapping_mul(page(configuration));
+    first_page(configuration).wrapping_add(pages)
 }
 
 /// First and last address for a MAP: mostly whole pages, now and then on or past an edge.

@@ -1,5 +1,6 @@
 //! Calls biased to what earlier calls did, so that every answer comes often.
 
+use super::layouts::{odd_request, probe, with_any_head};
 use super::{addresses, owned};
 use crate::config::{Configuration, ListedEndpoint};
 use crate::faults::Direction;
@@ -70,10 +71,14 @@ impl<'a> CallMaker<'a> {
         match random.below(100) {
             0..=12 => self.attachment(random, guest),
             13..=36 => self.map(random, guest),
-            37..=47 => self.unmap(random, guest),
-            48..=50 => odd_request(random, guest),
-            51..=90 => self.access(random, guest),
-            91..=98 => Record::Fetch { guest, asked: random.below(17) as u8 },
+            37..=46 => self.unmap(random, guest),
+            47..=49 => odd_request(random, guest),
+            50..=53 => {
+                let endpoint = self.endpoint(random, guest);
+                probe(random, guest, endpoint)
+            }
+            54..=91 => self.access(random, guest),
+            92..=98 => Record::Fetch { guest, asked: random.below(17) as u8 },
             _ => self.reset(guest),
         }
     }
@@ -211,9 +216,8 @@ impl<'a> CallMaker<'a> {
 
     /// What is known of an endpoint, if it is the guest's.
     fn known(&mut self, guest: Guest, endpoint: Endpoint) -> Option<&mut Option<Domain>> {
-        let wanted = ListedEndpoint { endpoint, owner: guest };
-        let listed = &self.configuration.endpoints;
-        let place = listed.iter().position(|entry| *entry == wanted)?;
+        let wanted = |entry: &ListedEndpoint| (entry.endpoint, entry.owner) == (endpoint, guest);
+        let place = self.configuration.endpoints.iter().position(wanted)?;
         self.domains.get_mut(place)
     }
 
@@ -239,24 +243,4 @@ impl<'a> CallMaker<'a> {
             .map(|(entry, _)| entry.endpoint)
             .collect()
     }
-}
-
-/// A request of any type byte in a record of any length.
-fn odd_request(random: &mut Random, guest: Guest) -> Record {
-    let mut readable = vec![0; random.pick(&[20, 28, 36])];
-    for byte in readable.iter_mut() {
-        *byte = random.pick(&[0, 0, 0, 1, 255]);
-    }
-    readable[0] = random.pick(&[0, 1, 2, 3, 4, 5, 6, 128, 255]);
-    Record::Request { guest, readable }
-}
-
-/// Now and then fills the three ignored bytes of the head.
-fn with_any_head(random: &mut Random, mut record: Record) -> Record {
-    if let Record::Request { readable, .. } = &mut record {
-        if random.chance(20) {
-            readable[1..4].copy_from_slice(&random.number().to_le_bytes()[..3]);
-        }
-    }
-    record
 }

@@ -1,5 +1,7 @@
 //! Damaged journals: records where they may not be, and bytes cut, changed or added.
 
+mod regions;
+
 use super::{edges, flood, mixed, refused};
 use crate::journal;
 use crate::numbers::{Domain, Endpoint, Guest};
@@ -37,16 +39,20 @@ fn damage_records(random: &mut Random, records: &mut Vec<Record>) {
         // Anywhere after it.
         _ => start + 1 + random.place(records.len() - start),
     };
-    let damage = match random.below(12) {
+    let damage = match random.below(18) {
         0 => return too_many(random, records, GUEST, 5),
         1 => return too_many(random, records, ENDPOINT, 33),
         2 => {
             records.remove(start);
             return;
         }
-        3 | 4 => set_up_record(random),
-        5 => call(random),
-        6 | 7 => Record::Raw(vec![random.pick(&[0, 4, 5, 0x10, 0x14, 0x20, 0x24, 0x80, 0xff])]),
+        3..=6 => set_up_record(random, &records[..start]),
+        7 | 8 => return regions::fifth(random, records, start),
+        9 | 10 => return regions::early(random, records, start),
+        11 => call(random),
+        12 | 13 => {
+            Record::Raw(vec![random.pick(&[0, 4, 5, 0x10, 0x14, 0x15, 0x20, 0x24, 0x80, 0xff])])
+        }
         _ => bad_last_byte(random),
     };
     records.insert(place, damage);
@@ -64,11 +70,12 @@ fn too_many(random: &mut Random, records: &mut Vec<Record>, like: Record, limit:
     }
 }
 
-/// A record that only comes before the start, or a start.
-fn set_up_record(random: &mut Random) -> Record {
-    match random.below(3) {
+/// A record that only comes before the start, where these stand, or a start.
+fn set_up_record(random: &mut Random, before: &[Record]) -> Record {
+    match random.below(6) {
         0 => GUEST,
         1 => ENDPOINT,
+        2..=4 => regions::any(random, before),
         _ => Record::Start { mask: 1, input: (0, u64::MAX), domains: (0, 9) },
     }
 }
@@ -76,11 +83,12 @@ fn set_up_record(random: &mut Random) -> Record {
 /// A call, bad where it comes before the start.
 fn call(random: &mut Random) -> Record {
     let guest = Guest(random.below(4) as u8);
-    match random.below(5) {
+    match random.below(6) {
         0 => Record::attach(guest, Domain(1), Endpoint(8)),
         1 => Record::map(guest, Domain(1), (0, 0xfff), 0x8000_0000, 3),
         2 => Record::read(Endpoint(8), 0),
         3 => Record::Reset { guest },
+        4 => Record::probe(guest, Endpoint(8)),
         _ => Record::Fetch { guest, asked: 3 },
     }
 }
@@ -111,6 +119,9 @@ fn damage_bytes(random: &mut Random, bytes: &mut Vec<u8>) {
         3 => {
             bytes.remove(place);
         }
-        _ => bytes.insert(place, random.pick(&[journal::GUEST, journal::FETCH, 0, 0xff])),
+        _ => bytes.insert(
+            place,
+            random.pick(&[journal::GUEST, journal::REGION, journal::FETCH, 0, 0xff]),
+        ),
     }
 }

@@ -2,6 +2,7 @@
 
 mod life;
 mod ranges;
+mod regions;
 
 use super::set_up;
 use crate::config::Configuration;
@@ -19,7 +20,7 @@ type Script = (Configuration, Vec<Record>);
 
 /// A journal about one edge.
 pub fn journal(random: &mut Random) -> Vec<Record> {
-    let edges: [fn(&mut Random) -> Script; 12] = [
+    let edges: [fn(&mut Random) -> Script; 15] = [
         ranges::top_of_space,
         ranges::end_of_window,
         ranges::wrapping_sums,
@@ -32,6 +33,9 @@ pub fn journal(random: &mut Random) -> Vec<Record> {
         life::straddlers,
         life::straddlers,
         life::full_log,
+        regions::kept_off,
+        regions::kept_off,
+        regions::kept_off,
     ];
     let (configuration, calls) = random.pick(&edges)(random);
     let mut records = set_up(random, &configuration);

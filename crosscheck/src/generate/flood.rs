@@ -1,7 +1,7 @@
 //! One guest that fills its share and its log beside the work of the others.
 
 use super::calls::CallMaker;
-use super::{addresses, guests, merge, owned, set_up, setup};
+use super::{addresses, guests, merge, owned, regions, set_up, setup};
 use crate::config::{Configuration, ListedEndpoint};
 use crate::numbers::{Domain, Endpoint, Guest};
 use crate::random::Random;
@@ -28,11 +28,9 @@ pub fn roomy(random: &mut Random, count: u64) -> Configuration {
     configuration.page_size_mask = random.pick(&[0x1000, 0x1000, 1, 0x10, 0x4020_1000]);
     configuration.input_range = 0..=u64::MAX;
     configuration.endpoints = (0..2 * count)
-        .map(|place| ListedEndpoint {
-            endpoint: Endpoint(8 + place as u32),
-            owner: Guest((place % count) as u8),
-        })
+        .map(|place| ListedEndpoint::new(Endpoint(8 + place as u32), Guest((place % count) as u8)))
         .collect();
+    regions::add(random, &mut configuration);
     configuration
 }
 

@@ -1,6 +1,6 @@
 //! Starts that are refused, each for one cause, and the calls that run on after them.
 
-use super::{any_guest, no_guest, set_up, setup};
+use super::{any_guest, no_guest, regions, set_up, setup};
 use crate::config::{Configuration, GuestShare, ListedEndpoint};
 use crate::generate::calls::CallMaker;
 use crate::numbers::{Endpoint, Guest};
@@ -12,7 +12,7 @@ use std::ops::RangeInclusive;
 pub fn journal(random: &mut Random) -> Vec<Record> {
     let good = setup::sound(random);
     let mut configuration = good.clone();
-    match random.below(13) {
+    match random.below(20) {
         0 => no_guests(random, &mut configuration),
         1 => reversed_window(random, &mut configuration),
         2 | 3 => touching_windows(random, &mut configuration),
@@ -21,6 +21,7 @@ pub fn journal(random: &mut Random) -> Vec<Record> {
         7 => configuration.input_range = reversed(random, 0, u64::MAX),
         8 => configuration.domain_range = reversed(random, 0, u32::MAX),
         9..=11 => owner_not_in_use(random, &mut configuration),
+        12..=18 => regions::spoil(random, &mut configuration),
         _ => endpoint_twice(random, &mut configuration),
     }
     let mut records = set_up(random, &configuration);
@@ -79,7 +80,7 @@ fn owner_not_in_use(random: &mut Random, configuration: &mut Configuration) {
     let owner = no_guest(random, configuration.guests.len() as u8);
     configuration.endpoints.truncate(31);
     let endpoint = Endpoint(0x7777_7777);
-    configuration.endpoints.push(ListedEndpoint { endpoint, owner });
+    configuration.endpoints.push(ListedEndpoint::new(endpoint, owner));
 }
 
 /// The same endpoint number twice, for one owner or for two.
@@ -88,7 +89,7 @@ fn endpoint_twice(random: &mut Random, configuration: &mut Configuration) {
     let endpoint = Endpoint(0x7777_7777);
     for _ in 0..2 {
         let owner = Guest(random.below(configuration.guests.len() as u64) as u8);
-        configuration.endpoints.push(ListedEndpoint { endpoint, owner });
+        configuration.endpoints.push(ListedEndpoint::new(endpoint, owner));
     }
     random.shuffle(&mut configuration.endpoints);
 }

@@ -1,5 +1,6 @@
 //! Sound set-ups, small and on the edges.
 
+use super::regions;
 use crate::config::{Configuration, GuestShare, ListedEndpoint};
 use crate::numbers::{Endpoint, Guest};
 use crate::random::Random;
@@ -39,20 +40,22 @@ pub fn sound_for(random: &mut Random, count: u64) -> Configuration {
     let shares = shares(random, count);
     let windows = windows(random, count);
     let guests = shares.into_iter().zip(windows);
-    Configuration {
+    let mut configuration = Configuration {
         guests: guests.map(|(share, window)| GuestShare { share, window }).collect(),
         endpoints: endpoints(random, count),
         page_size_mask,
         input_range: input_range(random, page_size_mask),
         domain_range: random.pick(&DOMAIN_RANGES),
-    }
+    };
+    regions::add(random, &mut configuration);
+    configuration
 }
 
 /// One guest with one endpoint, wide ranges and a page granularity of 0x1000: a plain base.
 pub fn plain() -> Configuration {
     Configuration {
         guests: vec![GuestShare { share: 4, window: 0x8000_0000..=0x8fff_ffff }],
-        endpoints: vec![ListedEndpoint { endpoint: Endpoint(8), owner: Guest(0) }],
+        endpoints: vec![ListedEndpoint::new(Endpoint(8), Guest(0))],
         page_size_mask: 0x1000,
         input_range: 0..=u64::MAX,
         domain_range: 1..=15,
@@ -104,7 +107,7 @@ fn endpoints(random: &mut Random, count: u64) -> Vec<ListedEndpoint> {
     let mut entry = |place: u64| {
         let owner = if by_turns { place % count } else { random.below(count) };
         let endpoint = base.wrapping_add(step * place as u32);
-        ListedEndpoint { endpoint: Endpoint(endpoint), owner: Guest(owner as u8) }
+        ListedEndpoint::new(Endpoint(endpoint), Guest(owner as u8))
     };
     (0..length).map(&mut entry).collect()
 }

@@ -1,6 +1,7 @@
 //! The flat places of a device's state and table.
 
 use super::{DomainRange, InputRange, Settings, State, FAULT_PLACES, RECORD_WORDS, TABLE_WORDS};
+use super::{ALL_REGION_WORDS, ENDPOINT_REGION_WORDS};
 use crate::config::{Configuration, MOST_ENDPOINTS, MOST_GUESTS};
 use crate::device::Device;
 use crate::faults::LOG_PLACES;
@@ -16,6 +17,7 @@ impl State {
             owners: [0; MOST_ENDPOINTS],
             attached: [0; MOST_ENDPOINTS],
             domains: [0; MOST_ENDPOINTS],
+            regions: [0; ALL_REGION_WORDS],
             live: device.table.records.len(),
             logged: [0; MOST_GUESTS],
             lost: [0; MOST_GUESTS],
@@ -25,6 +27,7 @@ impl State {
             addresses: [0; FAULT_PLACES],
         };
         state.put_endpoints(device);
+        state.put_regions(configuration);
         state.put_logs(device);
         state
     }
@@ -36,6 +39,17 @@ impl State {
             self.owners[place] = entry.owner.0;
             self.attached[place] = attached.is_some().into();
             self.domains[place] = attached.map_or(0, |domain| domain.0);
+        }
+    }
+
+    fn put_regions(&mut self, configuration: &Configuration) {
+        let places = self.regions.chunks_exact_mut(ENDPOINT_REGION_WORDS);
+        for (words, entry) in places.zip(&configuration.endpoints) {
+            let (count, words) = words.split_first_mut().expect("an endpoint has words");
+            *count = entry.regions.len() as u64;
+            for (words, region) in words.chunks_exact_mut(3).zip(&entry.regions) {
+                words.copy_from_slice(&[region.subtype.into(), region.start, region.end]);
+            }
         }
     }
 

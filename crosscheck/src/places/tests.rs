@@ -3,7 +3,7 @@
 //!
 //! The other clauses, each broken once, are among the tests of `sound`, which ask both.
 
-use super::{table_of, State, RECORD_WORDS, TABLE_WORDS};
+use super::{table_of, State, ENDPOINT_REGION_WORDS, RECORD_WORDS, TABLE_WORDS};
 use crate::device::Device;
 use crate::generate::{case, Case};
 use crate::journal;
@@ -63,8 +63,8 @@ fn both_tests_give_the_same() {
 }
 
 /// Whether both tests take the sound device of the tests of `sound` after this change. It has two
-/// guests, four endpoints, the last of them unattached, four records, two faults of guest 0 and as
-/// many as there are places of guest 1.
+/// guests, four endpoints with 2, 0, 4 and 1 regions, the last of them unattached, four records, two
+/// faults of guest 0 and as many as there are places of guest 1.
 fn taken(change: impl FnOnce(&mut State, &mut Vec<u64>)) -> bool {
     let device = sound_device();
     let (mut state, mut table) = (State::of(&device), table_of(&device));
@@ -134,12 +134,45 @@ fn places_of_endpoints_not_listed_are_zero() {
     }
 }
 
+/// Every word that is in use by no region, of a listed endpoint and of one that is not.
+#[test]
+fn words_of_regions_not_in_use_are_zero() {
+    for (place, count) in [(0, 2), (1, 0), (2, 4), (3, 1)] {
+        for word in 1 + 3 * count..ENDPOINT_REGION_WORDS {
+            refused(|state| state.regions[ENDPOINT_REGION_WORDS * place + word] = 1);
+        }
+    }
+    for word in 4 * ENDPOINT_REGION_WORDS..32 * ENDPOINT_REGION_WORDS {
+        refused(|state| state.regions[word] = 1 << 63);
+    }
+}
+
+/// One more or less, where that makes a word not in use other than zero or two regions meet.
+#[test]
+fn a_count_of_regions_is_theirs() {
+    let count = |place: usize| ENDPOINT_REGION_WORDS * place;
+    refused(|state| state.regions[count(0)] = 1);
+    refused(|state| state.regions[count(2)] = 3);
+    refused(|state| state.regions[count(2)] = 5);
+    refused(|state| state.regions[count(1)] = u64::MAX);
+    refused(|state| state.regions[count(1)] = 1 << 32);
+    refused(|state| state.regions[count(1)] = 2);
+    assert!(taken(|state, _| state.regions[count(1)] = 1), "reserved, from 0 to 0");
+}
+
+/// A subtype is looked at in full width.
+#[test]
+fn a_regions_words_are_no_wider_than_its_numbers() {
+    refused(|state| state.regions[1] += 1 << 8);
+    refused(|state| state.regions[4] += 1 << 32);
+}
+
 #[test]
 fn an_endpoint_is_attached_or_holds_0() {
     refused(|state| state.attached[0] = 2);
     refused(|state| state.attached[3] = 255);
     refused(|state| state.domains[3] = 1);
-    assert!(taken(|state, _| (state.attached[3], state.domains[3]) = (1, 1)));
+    assert!(taken(|state, _| (state.attached[3], state.domains[3]) = (1, 2)));
 }
 
 #[test]

@@ -6,26 +6,43 @@ use crate::device::Device;
 use crate::faults::{Direction, Fault, Reason, LOG_PLACES};
 use crate::numbers::{Domain, Endpoint, Guest};
 use crate::places::{table_of, State};
+use crate::regions::{Region, MSI, RESERVED};
 use crate::sound::SoundnessTest;
 use crate::table::Mapping;
 use std::ops::RangeInclusive;
+
+mod regions;
 
 const PAGE: u64 = 0x1000;
 const G0: Guest = Guest(0);
 const G1: Guest = Guest(1);
 
 fn configuration() -> Configuration {
-    let entry = |endpoint, owner| ListedEndpoint { endpoint: Endpoint(endpoint), owner };
+    let entry = |endpoint, owner| ListedEndpoint::new(Endpoint(endpoint), owner);
+    let with_regions = |endpoint, owner, regions: &[Region]| ListedEndpoint {
+        regions: regions.to_vec(),
+        ..entry(endpoint, owner)
+    };
     Configuration {
         guests: vec![
             GuestShare { share: 3, window: 0x8000_0000..=0x8fff_ffff },
             GuestShare { share: 2, window: 0x9000_0000..=0x9fff_ffff },
         ],
-        endpoints: vec![entry(8, G0), entry(9, G1), entry(10, G0), entry(11, G1)],
+        endpoints: vec![
+            with_regions(8, G0, &[region(MSI, 8), region(RESERVED, 7)]),
+            entry(9, G1),
+            with_regions(10, G0, &[12, 10, 14, 16].map(|page| region(RESERVED, page))),
+            with_regions(11, G1, &[region(RESERVED, 2)]),
+        ],
         page_size_mask: 0x3000,
         input_range: 0x1000..=0xf_ffff,
         domain_range: 1..=15,
     }
+}
+
+/// The region of this page.
+fn region(subtype: u8, page: u64) -> Region {
+    Region { subtype, start: page * PAGE, end: page * PAGE + PAGE - 1 }
 }
 
 /// The record of these pages, in the guest's window.
@@ -137,7 +154,7 @@ fn one_to_four_guests() {
 fn at_most_32_endpoints() {
     refused(|device| {
         for endpoint in 12..41 {
-            let entry = ListedEndpoint { endpoint: Endpoint(endpoint), owner: G0 };
+            let entry = ListedEndpoint::new(Endpoint(endpoint), G0);
             device.configuration.endpoints.push(entry);
             device.attached.push(None);
         }

@@ -1,5 +1,5 @@
 //! Each cause of `bad journal at N`, "N the kind byte's offset, decimal". A guest record has 19
-//! bytes, an endpoint 6, a start 33, requests 22, 30 and 38, an access 14, a reset 2, a fetch 3.
+//! bytes, an endpoint 6, a start 33, requests 22, 30, 38 and 74, an access 14, a reset 2, a fetch 3.
 
 use crate::support::*;
 use crosscheck::config::Configuration;
@@ -38,7 +38,7 @@ fn an_empty_journal_and_one_without_a_start() {
 /// "An unknown kind", first of all, after whole records, and before and after the start.
 #[test]
 fn an_unknown_kind() {
-    for kind in [0x00, 0x04, 0x10, 0x14, 0x20, 0x24, 0x7f, 0xff] {
+    for kind in [0x00, 0x05, 0x10, 0x15, 0x20, 0x24, 0x7f, 0xff] {
         let raw = Record::Raw(vec![kind]);
         assert_eq!(lines_of_bytes(&[kind]), ["bad journal at 0"]);
         assert_eq!(lines_after(vec![GUEST], raw.clone()), ["bad journal at 19"]);
@@ -63,6 +63,7 @@ fn a_cut_body() {
         (Record::attach(G0, D1, E8), 22),
         (Record::unmap(G0, D1, (0, 0xfff)), 30),
         (Record::map(G0, D1, (0, 0xfff), W0, READ), 38),
+        (Record::probe(G0, Endpoint(9)), 74),
         (Record::read(E8, 0), 14),
         (RESET, 2),
         (Record::Fetch { guest: G0, asked: 1 }, 3),
@@ -74,7 +75,8 @@ fn a_cut_body() {
         for cut in STARTED + 1..whole.len() {
             assert_eq!(lines_of_bytes(&whole[..cut]), ["S 0", &bad]);
         }
-        assert_eq!(lines_of_bytes(&whole).len(), 3);
+        let lines = lines_of_bytes(&whole);
+        assert_eq!((lines[0].as_str(), lines.last().map(String::as_str)), ("S 0", Some("E")));
     }
 }
 
@@ -144,6 +146,7 @@ fn a_call_before_the_start() {
         Record::attach(G0, D1, E8),
         Record::unmap(G0, D1, (0, 0xfff)),
         Record::map(G0, D1, (0, 0xfff), W0, READ),
+        Record::probe(G0, E8),
         Record::read(E8, 0),
         RESET,
         Record::Fetch { guest: G0, asked: 1 },

@@ -8,7 +8,7 @@ use crosscheck::record::Record;
 fn wide() -> Configuration {
     Configuration {
         guests: vec![GuestShare { share: 2, window: 0..=TOP }],
-        endpoints: vec![ListedEndpoint { endpoint: E8, owner: G0 }],
+        endpoints: vec![ListedEndpoint::new(E8, G0)],
         page_size_mask: 1,
         input_range: 0..=TOP,
         domain_range: 0..=u32::MAX,

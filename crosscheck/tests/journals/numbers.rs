@@ -1,7 +1,7 @@
 //! "Numbers a call gives back" that a good set-up can reach.
 
 use crate::support::*;
-use crosscheck::answers::Refusal;
+use crosscheck::answers::{Handled, Refusal, Status};
 use crosscheck::device::Device;
 use crosscheck::numbers::{Endpoint, Guest};
 use crosscheck::record::Record;
@@ -31,20 +31,23 @@ fn a_guest_that_is_not_there() {
     );
 }
 
-/// 3: "request type not 1 to 4", whatever the length; 4: "a part's length not the type's".
+/// 3: "for types not 1 to 5", whatever the length; 4: "a part's length not the type's".
 #[test]
 fn types_and_lengths() {
     let mut calls = Vec::new();
-    for length in [20, 28, 36] {
-        for request_type in [0, 5, 6, 128, 255] {
+    for length in [20, 28, 36, 72] {
+        for request_type in [0, 6, 7, 128, 133, 255] {
             calls.push((bare(G0, request_type, length), "R 3 0 -"));
         }
     }
-    for (request_type, length) in [(1, 28), (1, 36), (2, 28), (2, 36)] {
+    for (request_type, length) in [(1, 28), (1, 36), (1, 72), (2, 28), (2, 36), (2, 72)] {
         calls.push((bare(G0, request_type, length), "R 4 0 -"));
     }
-    for (request_type, length) in [(3, 20), (3, 28), (4, 20), (4, 36)] {
+    for (request_type, length) in [(3, 20), (3, 28), (3, 72), (4, 20), (4, 36), (4, 72)] {
         calls.push((bare(G0, request_type, length), "R 4 0 -"));
+    }
+    for length in [20, 28, 36] {
+        calls.push((bare(G0, 5, length), "R 4 0 -"));
     }
     // Of its own length each is handled: endpoint 0 is not listed, domain 0 does not exist.
     for (request_type, length) in [(1, 20), (2, 20), (3, 36), (4, 28)] {
@@ -68,7 +71,8 @@ fn the_order_of_a_requests_numbers() {
     assert_eq!(device.request(G0, &readable, &mut writable[..3]), Err(Refusal::WrongLength));
     assert_eq!(writable, [0xee; 5]);
     // "status then three zeros; used length 4": endpoint 0 is not listed, NOENT 6.
-    assert_eq!(device.request(G0, &readable, &mut writable[..4]), Ok(4));
+    let handled = Handled { used: 4, status: Status::Noent };
+    assert_eq!(device.request(G0, &readable, &mut writable[..4]), Ok(handled));
     assert_eq!(writable, [6, 0, 0, 0, 0xee]);
 }
 

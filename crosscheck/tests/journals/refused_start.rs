@@ -107,7 +107,7 @@ fn the_shares() {
 fn the_endpoints() {
     let more = |endpoint, owner| {
         start_line(move |configuration| {
-            let entry = ListedEndpoint { endpoint: Endpoint(endpoint), owner: Guest(owner) };
+            let entry = ListedEndpoint::new(Endpoint(endpoint), Guest(owner));
             configuration.endpoints.push(entry);
         })
     };

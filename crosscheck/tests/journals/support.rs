@@ -22,6 +22,7 @@ pub const TOP: u64 = u64::MAX;
 
 /// The lines that come most often.
 pub const OK: &str = "R 0 4 0";
+pub const UNSUPP: &str = "R 0 4 2";
 pub const INVAL: &str = "R 0 4 4";
 pub const RANGE: &str = "R 0 4 5";
 pub const NOENT: &str = "R 0 4 6";
@@ -30,13 +31,14 @@ pub const NOMEM: &str = "R 0 4 8";
 
 /// Two guests of two records each; endpoints 8 and 10 of guest 0, 9 of guest 1.
 pub fn two_guests() -> Configuration {
-    let endpoint = |endpoint, owner| ListedEndpoint { endpoint, owner };
     Configuration {
         guests: vec![
             GuestShare { share: 2, window: W0..=0x8fff_ffff },
             GuestShare { share: 2, window: W1..=0x9fff_ffff },
         ],
-        endpoints: vec![endpoint(E8, G0), endpoint(E9, G1), endpoint(E10, G0)],
+        endpoints: [(E8, G0), (E9, G1), (E10, G0)]
+            .map(|(endpoint, owner)| ListedEndpoint::new(endpoint, owner))
+            .into(),
         page_size_mask: 0x1000,
         input_range: 0..=0xffff_ffff,
         domain_range: 1..=15,

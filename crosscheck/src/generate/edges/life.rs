@@ -53,7 +53,7 @@ fn two_guests() -> Configuration {
     configuration.guests.push(GuestShare { share: 3, window: 0x9000_0000..=0x9fff_ffff });
     for (endpoint, owner) in [(9, 1), (10, 0), (11, 1)] {
         let endpoint = Endpoint(endpoint);
-        configuration.endpoints.push(ListedEndpoint { endpoint, owner: Guest(owner) });
+        configuration.endpoints.push(ListedEndpoint::new(endpoint, Guest(owner)));
     }
     configuration
 }

@@ -2,7 +2,7 @@
 
 use crate::config::{MOST_ENDPOINTS, MOST_GUESTS};
 use crate::faults::LOG_PLACES;
-use crate::places::{State, RECORD_WORDS, TABLE_WORDS};
+use crate::places::{State, ENDPOINT_REGION_WORDS, RECORD_WORDS, TABLE_WORDS};
 use crate::random::Random;
 
 /// One to three changes.
@@ -39,7 +39,7 @@ fn change_state(random: &mut Random, state: &mut State) {
     let (guest, endpoint) = (random.place(MOST_GUESTS), random.place(MOST_ENDPOINTS));
     let fault = LOG_PLACES * guest + random.place(LOG_PLACES);
     let settings = &mut state.settings;
-    match random.below(20) {
+    match random.below(23) {
         0 => change!(settings.guests),
         1 => change!(settings.shares[guest]),
         2 => change!(settings.firsts[guest]),
@@ -59,9 +59,28 @@ fn change_state(random: &mut Random, state: &mut State) {
         16 => change!(state.lost[guest]),
         17 => change!(state.reasons[fault]),
         18 => change!(state.flags[fault]),
+        20 => change!(state.regions[random.place(state.regions.len())]),
+        21 | 22 => change_regions(random, state),
         _ if random.chance(50) => change!(state.sources[fault]),
         _ => change!(state.addresses[fault]),
     }
+}
+
+/// Changes a word of a listed endpoint's regions, mostly one of those that has some, or takes the
+/// regions of another endpoint for its own.
+fn change_regions(random: &mut Random, state: &mut State) {
+    let listed = state.listed.clamp(1, MOST_ENDPOINTS);
+    let has_some = |place: &usize| state.regions[ENDPOINT_REGION_WORDS * place] > 0;
+    let mut places: Vec<usize> = (0..listed).filter(has_some).collect();
+    places.push(random.place(listed));
+    let from = ENDPOINT_REGION_WORDS * random.pick(&places);
+    let other = ENDPOINT_REGION_WORDS * random.place(listed);
+    if random.chance(20) {
+        state.regions.copy_within(other..other + ENDPOINT_REGION_WORDS, from);
+        return;
+    }
+    let word = &mut state.regions[from + random.place(ENDPOINT_REGION_WORDS)];
+    *word = other_number(random, *word);
 }
 
 /// Changes a word of the table, mostly one of a live record, or takes one record for another.

@@ -4,7 +4,8 @@ use crate::config::{Configuration, GuestShare, ListedEndpoint, MOST_ENDPOINTS, M
 use crate::device::Device;
 use crate::faults::{Direction, Fault, FaultLog, Reason, LOG_PLACES};
 use crate::numbers::{Domain, Endpoint, Guest};
-use crate::places::{State, RECORD_WORDS, TABLE_WORDS};
+use crate::places::{State, ENDPOINT_REGION_WORDS, RECORD_WORDS, TABLE_WORDS};
+use crate::regions::{Region, MOST_REGIONS};
 use crate::sound::SoundnessTest;
 use crate::table::{Mapping, MappingTable};
 
@@ -33,7 +34,8 @@ fn configuration_of(state: &State) -> Option<Configuration> {
     };
     let endpoint = |place: usize| {
         let endpoint = Endpoint(*state.endpoints.get(place)?);
-        Some(ListedEndpoint { endpoint, owner: Guest(state.owners[place]) })
+        let regions = regions_of(state, place)?;
+        Some(ListedEndpoint { endpoint, owner: Guest(state.owners[place]), regions })
     };
     Some(Configuration {
         guests: (0..settings.guests).map(guest).collect::<Option<_>>()?,
@@ -42,6 +44,22 @@ fn configuration_of(state: &State) -> Option<Configuration> {
         input_range: settings.input.start..=settings.input.end,
         domain_range: settings.domains.start..=settings.domains.end,
     })
+}
+
+/// The regions of an endpoint, and zero in the words after them.
+fn regions_of(state: &State, place: usize) -> Option<Vec<Region>> {
+    let from = ENDPOINT_REGION_WORDS * place;
+    let count = usize::try_from(state.regions[from]).ok()?;
+    let region = |nth: usize| {
+        let words = &state.regions[from + 1 + 3 * nth..from + 4 + 3 * nth];
+        Some(Region { subtype: words[0].try_into().ok()?, start: words[1], end: words[2] })
+    };
+    let in_use = 1 + 3 * count.min(MOST_REGIONS + 1);
+    let unused = state.regions[from..from + ENDPOINT_REGION_WORDS].iter().skip(in_use);
+    if count > MOST_REGIONS || unused.into_iter().any(|word| *word != 0) {
+        return None;
+    }
+    (0..count).map(region).collect()
 }
 
 fn attachment_of(state: &State, place: usize) -> Option<Option<Domain>> {
@@ -97,7 +115,10 @@ fn unused_places_are_zero(state: &State) -> bool {
     });
     let endpoints = (state.listed..MOST_ENDPOINTS).all(|place| {
         let bytes = state.owners[place] | state.attached[place];
-        (state.endpoints[place] | state.domains[place]) == 0 && bytes == 0
+        let mut regions = state.regions[ENDPOINT_REGION_WORDS * place..].iter();
+        (state.endpoints[place] | state.domains[place]) == 0
+            && bytes == 0
+            && regions.all(|word| *word == 0)
     });
     let faults = (0..MOST_GUESTS).all(|guest| {
         (0..LOG_PLACES).skip(state.logged[guest]).all(|n| {
