@@ -137,7 +137,8 @@ struct viommu_domain_range {
 
 /*
  * A reserved region of an endpoint, the addresses from start to end, both included: no record of a domain that the endpoint
- * is in overlaps it. It need lie in no window or range, and need not be aligned.
+ * is in overlaps it. It may lie anywhere, outside windows and ranges too, and need not be aligned. An access to it is decided
+ * like any other, and as no record covers it, it is VIOMMU_UNMAPPED.
  */
 struct viommu_region {
     uint64_t subtype; /* VIOMMU_REGION_RESERVED or VIOMMU_REGION_MSI */
@@ -146,8 +147,9 @@ struct viommu_region {
 };
 
 /*
- * The reserved regions of one endpoint, in VIOMMU_ENDPOINT_REGION_WORDS words, all in use or not: the first count places,
- * of which no two overlap and at most one is VIOMMU_REGION_MSI. An array of these has the words that set-up is lent.
+ * The reserved regions of one endpoint: the first count of its places. No two of them overlap, and at most one is
+ * VIOMMU_REGION_MSI. It is VIOMMU_ENDPOINT_REGION_WORDS words without padding, so an array of these is the list of words that
+ * set-up is lent.
  */
 struct viommu_regions {
     uint64_t count; /* at most VIOMMU_REGIONS */
@@ -238,9 +240,9 @@ size_t viommu_writable_length(uint8_t type);
  * The reserved regions are a third list that is only read: VIOMMU_ENDPOINT_REGION_WORDS words for each endpoint, in the
  * order of the endpoints, with the number of its regions, then subtype, start and end of each of VIOMMU_REGIONS places. What
  * stands in places from the number on is not looked at. region_words is to be VIOMMU_ENDPOINT_REGION_WORDS times
- * endpoint_count, and any other count is VIOMMU_BAD_CONFIGURATION: so a device without regions is lent zeros, 13 words for
- * each endpoint, and only one without endpoints is lent a list of count 0, by a pointer that is not null like any other.
- * An array of struct viommu_regions, which holds these words, is lent by the pointer to its first:
+ * endpoint_count, and any other count is VIOMMU_BAD_CONFIGURATION: endpoints without regions have zeros, and a list of count 0
+ * is good only where there are no endpoints, by a pointer that is not null even then. An array of struct viommu_regions holds
+ * these words, and is lent by the pointer to its first:
  *
  *     static const struct viommu_regions regions[2] = {
  *         {2, {{VIOMMU_REGION_MSI, 0xfee00000, 0xfeefffff}, {VIOMMU_REGION_RESERVED, 0x1000, 0x1fff}}},

@@ -68,7 +68,7 @@ build worked_run -- worked_run.c requests.c
 "$out/worked_run" | diff tests/c/worked_run.expected -
 echo "worked run: the lines of document 01"
 
-# show PROGRAM FILE..: what no journal shows, held to lines worked out from document 01
+# show PROGRAM FILE..: what no journal shows, or not byte for byte, held to lines worked out from documents 01 and 02
 show() {
   local program=$1
   build "$program" -- "$program.c" shown.c "${@:2}"
