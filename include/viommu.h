@@ -20,7 +20,8 @@
  *
  *   - A list or a buffer is a pointer, then a count of ELEMENTS (words of the table, bytes of a buffer), not of bytes.
  *   - Every pointer is not null and is aligned for its element, also where the count is 0: then any such pointer will do,
- *     for instance that of an unused array, and nothing is read or written through it.
+ *     for instance that of an unused array, and nothing is read or written through it. NULL with a count of 0 is not
+ *     allowed for any list or buffer.
  *   - The buffers of one call do not overlap: neither with each other, nor with the table.
  *   - Nobody else writes to what is lent while the call runs, a guest neither: gather a request out of guest memory first.
  *   - Calls on one table do not run at the same time. Calls on different tables may.
@@ -30,7 +31,8 @@
  * The archive is code for x86-64 Linux by the System V ABI. It uses the SSE registers and the red zone below the stack
  * pointer, and needs no symbol but C's memcpy, memmove, memset and memcmp.
  *
- * The rules of set-up, requests, accesses and faults are document 01's. "Sound" and "good" below are its terms.
+ * The rules of set-up, requests, accesses and faults are document 01's, with reserved regions and PROBE as document 02's
+ * first request has them. "Sound" and "good" below are document 01's terms.
  */
 #ifndef VIOMMU_H
 #define VIOMMU_H
@@ -40,45 +42,62 @@
 
 /* SIZES */
 
-#define VIOMMU_GUESTS 4          /* guests at most, numbers 0 to 3 */
-#define VIOMMU_ENDPOINTS 32      /* endpoints at most, of all guests together */
-#define VIOMMU_RECORDS 256       /* mapping records that the table has room for */
-#define VIOMMU_RECORD_WORDS 5    /* words of a mapping record */
-#define VIOMMU_TABLE_WORDS 1280  /* words of the table: VIOMMU_RECORDS times VIOMMU_RECORD_WORDS */
-#define VIOMMU_FAULTS 16         /* faults that a guest's log has room for */
-#define VIOMMU_FAULT_PLACES 64   /* places of all logs: VIOMMU_GUESTS times VIOMMU_FAULTS */
-#define VIOMMU_FAULT_BYTES 24    /* bytes of a fetched fault */
-#define VIOMMU_LOST_LIMIT 65535  /* where a lost count stops */
-#define VIOMMU_STACK_BYTES 12288 /* stack that is to be free for a call */
+#define VIOMMU_GUESTS 4                  /* guests at most, numbers 0 to 3 */
+#define VIOMMU_ENDPOINTS 32              /* endpoints at most, of all guests together */
+#define VIOMMU_REGIONS 4                 /* reserved regions at most, of one endpoint */
+#define VIOMMU_REGION_WORDS 3            /* words of a reserved region */
+#define VIOMMU_ENDPOINT_REGION_WORDS 13  /* words for an endpoint's: 1 + VIOMMU_REGIONS times VIOMMU_REGION_WORDS */
+#define VIOMMU_REGION_PLACES 416         /* words for all: VIOMMU_ENDPOINTS times VIOMMU_ENDPOINT_REGION_WORDS */
+#define VIOMMU_RECORDS 256               /* mapping records that the table has room for */
+#define VIOMMU_RECORD_WORDS 5            /* words of a mapping record */
+#define VIOMMU_TABLE_WORDS 1280          /* words of the table: VIOMMU_RECORDS times VIOMMU_RECORD_WORDS */
+#define VIOMMU_FAULTS 16                 /* faults that a guest's log has room for */
+#define VIOMMU_FAULT_PLACES 64           /* places of all logs: VIOMMU_GUESTS times VIOMMU_FAULTS */
+#define VIOMMU_FAULT_BYTES 24            /* bytes of a fetched fault */
+#define VIOMMU_LOST_LIMIT 65535          /* where a lost count stops */
+#define VIOMMU_STATUS_BYTES 4            /* bytes of a status: the status, then three zeros */
+#define VIOMMU_PROPERTY_BYTES 24         /* bytes of a property that PROBE writes */
+#define VIOMMU_PROPERTIES_BYTES 128      /* bytes of all of them, with the zeros after the last */
+#define VIOMMU_PROBE_BYTES 132           /* bytes of PROBE's writable part: VIOMMU_PROPERTIES_BYTES + VIOMMU_STATUS_BYTES */
+#define VIOMMU_STACK_BYTES 32768         /* stack that is to be free for a call */
 
 /* NUMBERS: what a call gives back, and what it leaves behind */
 
 #define VIOMMU_DONE 0               /* done */
 #define VIOMMU_NO_SUCH_GUEST 1      /* guest number not below the guest count: nothing changes */
 #define VIOMMU_UNSOUND 2            /* table not of 1,280 words, or state and table not sound: nothing changes */
-#define VIOMMU_UNKNOWN_TYPE 3       /* request type not 1 to 4: nothing changes */
+#define VIOMMU_UNKNOWN_TYPE 3       /* request type not 1 to 5: nothing changes */
 #define VIOMMU_WRONG_LENGTH 4       /* readable part below 4 bytes, or a part's length not the type's: nothing changes */
 #define VIOMMU_BAD_CONFIGURATION 5  /* configuration not good: table untouched, every number of the state is zero */
 #define VIOMMU_UNKNOWN_ENDPOINT 6   /* access by an endpoint not listed: nothing changes */
 #define VIOMMU_UNATTACHED 7         /* access blocked, endpoint unattached: fault logged */
 #define VIOMMU_UNMAPPED 8           /* access blocked, no mapping permits it: fault logged */
 
-/* REQUESTS: the type is the first byte of the readable part, the status the first of the writable part */
+/*
+ * REQUESTS: the type is the first byte of the readable part. The status is the first of the last four bytes of the writable
+ * part: byte 0 for types 1 to 4, which have no others, and byte VIOMMU_PROPERTIES_BYTES for PROBE.
+ */
 
 #define VIOMMU_ATTACH 1
 #define VIOMMU_DETACH 2
 #define VIOMMU_MAP 3
 #define VIOMMU_UNMAP 4
+#define VIOMMU_PROBE 5
 
 #define VIOMMU_STATUS_OK 0
 #define VIOMMU_STATUS_IOERR 1   /* virtio's, never given by this device */
-#define VIOMMU_STATUS_UNSUPP 2  /* virtio's, never given by this device */
+#define VIOMMU_STATUS_UNSUPP 2  /* ATTACH: a record of the domain overlaps a reserved region of the endpoint */
 #define VIOMMU_STATUS_DEVERR 3  /* virtio's, never given by this device */
-#define VIOMMU_STATUS_INVAL 4
+#define VIOMMU_STATUS_INVAL 4   /* MAP: among others, a reserved region of an endpoint in the domain is overlapped */
 #define VIOMMU_STATUS_RANGE 5
 #define VIOMMU_STATUS_NOENT 6
 #define VIOMMU_STATUS_FAULT 7
 #define VIOMMU_STATUS_NOMEM 8
+
+/* RESERVED REGIONS: the subtype of one */
+
+#define VIOMMU_REGION_RESERVED 0
+#define VIOMMU_REGION_MSI 1     /* where devices write interrupts: at most one for each endpoint */
 
 /* ACCESSES AND FAULTS */
 
@@ -117,6 +136,27 @@ struct viommu_domain_range {
 };
 
 /*
+ * A reserved region of an endpoint, the addresses from start to end, both included: no record of a domain that the endpoint
+ * is in overlaps it. It may lie anywhere, outside windows and ranges too, and need not be aligned. An access to it is decided
+ * like any other, and as no record covers it, it is VIOMMU_UNMAPPED.
+ */
+struct viommu_region {
+    uint64_t subtype; /* VIOMMU_REGION_RESERVED or VIOMMU_REGION_MSI */
+    uint64_t start;   /* not above end */
+    uint64_t end;
+};
+
+/*
+ * The reserved regions of one endpoint: the first count of its places. No two of them overlap, and at most one is
+ * VIOMMU_REGION_MSI. It is VIOMMU_ENDPOINT_REGION_WORDS words without padding, so an array of these is the list of words that
+ * set-up is lent.
+ */
+struct viommu_regions {
+    uint64_t count; /* at most VIOMMU_REGIONS */
+    struct viommu_region region[VIOMMU_REGIONS];
+};
+
+/*
  * What set-up takes besides the endpoint lists. Guest g may hold shares[g] records, and its window is firsts[g] to
  * lasts[g], both included. Places from the guest count on are not looked at.
  */
@@ -134,7 +174,8 @@ struct viommu_settings {
  * The device's state. The hypervisor keeps and copies it as it likes, may read it, and has no need to write it: a state
  * that was written by hand is taken if it is sound with its table, and is else refused with VIOMMU_UNSOUND.
  *
- * Endpoint i, below listed, has its number, owner, attached flag and domain at place i of four arrays. Fault j of guest g,
+ * Endpoint i, below listed, has its number, owner, attached flag and domain at place i of four arrays, and its reserved
+ * regions in the words of a struct viommu_regions, the first at place VIOMMU_ENDPOINT_REGION_WORDS * i. Fault j of guest g,
  * the oldest being fault 0, has its fields at place VIOMMU_FAULTS * g + j of four arrays. Places not in use are zero.
  */
 struct viommu_state {
@@ -144,6 +185,7 @@ struct viommu_state {
     uint8_t owners[VIOMMU_ENDPOINTS];       /* their guests */
     uint8_t attached[VIOMMU_ENDPOINTS];     /* 1 attached, 0 not */
     uint32_t domains[VIOMMU_ENDPOINTS];     /* the domain, 0 where unattached */
+    uint64_t regions[VIOMMU_REGION_PLACES]; /* reserved regions, which no call but set-up changes */
     size_t live;                            /* number of records in the table, which stand first */
     size_t logged[VIOMMU_GUESTS];           /* number of faults in each guest's log */
     uint32_t lost[VIOMMU_GUESTS];           /* faults that found a guest's log full */
@@ -183,17 +225,31 @@ struct viommu_fetch_given {
 };
 
 /*
- * The bytes of a request's readable part, by its type byte: 20 for ATTACH and DETACH, 36 for MAP, 28 for UNMAP, 0 for
- * any other type. To be asked before a buffer is gathered.
+ * The bytes of a request's readable part, by its type byte: 20 for ATTACH and DETACH, 36 for MAP, 28 for UNMAP, 72 for
+ * PROBE, 0 for any other type. To be asked before a buffer is gathered.
  */
 size_t viommu_readable_length(uint8_t type);
 
-/* The bytes of a request's writable part, by its type byte: 4 for types 1 to 4, 0 for any other. */
+/* The bytes of a request's writable part, by its type byte: 4 for types 1 to 4, 132 for PROBE, 0 for any other. */
 size_t viommu_writable_length(uint8_t type);
 
 /*
  * Sets a device up: endpoint endpoints[i] belongs to guest owners[i]. The two lists are only read, and their counts are to
  * be equal and at most VIOMMU_ENDPOINTS; lists of count 0 are good. The table may hold anything.
+ *
+ * The reserved regions are a third list that is only read: VIOMMU_ENDPOINT_REGION_WORDS words for each endpoint, in the
+ * order of the endpoints, with the number of its regions, then subtype, start and end of each of VIOMMU_REGIONS places. What
+ * stands in places from the number on is not looked at. region_words is to be VIOMMU_ENDPOINT_REGION_WORDS times
+ * endpoint_count, and any other count is VIOMMU_BAD_CONFIGURATION: endpoints without regions have zeros, and a list of count 0
+ * is good only where there are no endpoints, by a pointer that is not null even then. An array of struct viommu_regions holds
+ * these words, and is lent by the pointer to its first:
+ *
+ *     static const struct viommu_regions regions[2] = {
+ *         {2, {{VIOMMU_REGION_MSI, 0xfee00000, 0xfeefffff}, {VIOMMU_REGION_RESERVED, 0x1000, 0x1fff}}},
+ *         {0},
+ *     };
+ *     viommu_set_up(settings, endpoints, 2, owners, 2, &regions[0].count, 2 * VIOMMU_ENDPOINT_REGION_WORDS,
+ *                   table, VIOMMU_TABLE_WORDS);
  *
  *   VIOMMU_DONE               the table is all zero; in the state all endpoints are unattached, logs are empty
  *   VIOMMU_UNSOUND            table_words is not VIOMMU_TABLE_WORDS: table untouched, every number of the state is zero
@@ -204,17 +260,31 @@ size_t viommu_writable_length(uint8_t type);
 struct viommu_set_up_given viommu_set_up(struct viommu_settings settings,
                                          const uint32_t *endpoints, size_t endpoint_count,
                                          const uint8_t *owners, size_t owner_count,
+                                         const uint64_t *regions, size_t region_words,
                                          uint64_t *table, size_t table_words);
 
 /*
  * Works one request of a guest's. The readable part is only read.
  *
- *   VIOMMU_DONE           used is 4, and the writable part holds the status, then three zeros. With VIOMMU_STATUS_OK, state
- *                         and table are as the request asked; with any other status they are unchanged
+ *   VIOMMU_DONE           used is the writable part's length, 4 or, for PROBE, 132; its last four bytes are the status, then
+ *                         three zeros. With VIOMMU_STATUS_OK, state and table are as the request asked, which PROBE leaves
+ *                         unchanged; with any other status they are unchanged
  *   VIOMMU_NO_SUCH_GUEST, VIOMMU_UNSOUND, VIOMMU_UNKNOWN_TYPE, VIOMMU_WRONG_LENGTH
  *                         used is 0; state, table and the writable part are unchanged
  *
  * The first that applies, in the order 1, 2, 4 (readable part below 4 bytes), 3, 4 (a length not the type's), 0.
+ *
+ * The bytes of a readable part, little-endian, after the head (type 1, ignored 3):
+ *
+ *   VIOMMU_ATTACH, VIOMMU_DETACH   domain 4, endpoint 4, reserved 8
+ *   VIOMMU_MAP                     domain 4, virt_start 8, virt_end 8, phys_start 8, flags 4
+ *   VIOMMU_UNMAP                   domain 4, virt_start 8, virt_end 8, reserved 4
+ *   VIOMMU_PROBE                   endpoint 4, ignored 64
+ *
+ * PROBE tells a guest the reserved regions of an endpoint of its own, attached or not. In the VIOMMU_PROPERTIES_BYTES before
+ * the status each region, in set-up order, is a property of VIOMMU_PROPERTY_BYTES: type 2 (it is 1), length 2 (it is 20),
+ * subtype 1, zeros 3, start 8, end 8, little-endian. All bytes after the last property are zero. For an endpoint that is not
+ * listed or not this guest's the status is VIOMMU_STATUS_NOENT, and all VIOMMU_PROPERTIES_BYTES are written zero.
  */
 struct viommu_request_given viommu_request(struct viommu_state state,
                                            uint64_t *table, size_t table_words,

@@ -68,7 +68,7 @@ build worked_run -- worked_run.c requests.c
 "$out/worked_run" | diff tests/c/worked_run.expected -
 echo "worked run: the lines of document 01"
 
-# show PROGRAM FILE..: what no journal shows, held to lines worked out from document 01
+# show PROGRAM FILE..: what no journal shows, or not byte for byte, held to lines worked out from documents 01 and 02
 show() {
   local program=$1
   build "$program" -- "$program.c" shown.c "${@:2}"
@@ -76,20 +76,22 @@ show() {
   echo "$program: the lines expected"
 }
 
-show show_configuration show_configuration_line.c
+show show_configuration show_configuration_regions.c show_configuration_line.c
 show show_soundness show_soundness_line.c show_soundness_settings.c show_soundness_places.c show_soundness_records.c \
-  show_soundness_faults.c show_soundness_wide.c driver.c requests.c
+  show_soundness_faults.c show_soundness_wide.c show_soundness_regions.c driver.c requests.c
+show show_regions show_regions_probe.c show_regions_map.c show_regions_attach.c driver.c requests.c
 show show_lengths show_lengths_tables.c show_lengths_parts.c driver.c requests.c
 show show_lost garbage_effect.c garbage_wanted.c
 show show_buffers requests.c garbage_effect.c garbage_wanted.c
 show show_table requests.c
 
-wanted=(garbage_good.c garbage_sound.c garbage_wanted.c garbage_effect.c garbage_call.c garbage_damage.c lent.c requests.c)
+wanted=(garbage_good.c garbage_regions.c garbage_sound.c garbage_wanted.c garbage_probe.c garbage_effect.c garbage_call.c
+  garbage_damage.c lent.c requests.c)
 build bits -- bits.c bits_kinds.c distinct.c driver.c "${wanted[@]}"
 "$out/bits"
 
 garbage=(garbage.c garbage_set_up.c garbage_draw.c garbage_queries.c garbage_break.c garbage_break_configuration.c
-  garbage_break_records.c garbage_break_places.c "${wanted[@]}")
+  garbage_break_records.c garbage_break_places.c garbage_break_regions.c "${wanted[@]}")
 build garbage -- "${garbage[@]}"
 "$out/garbage" "${1:-1}"
 

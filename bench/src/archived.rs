@@ -1,10 +1,10 @@
 //! A device of the archive: the state that its calls hand on, and the table that they are lent.
 
 use crate::entries;
-use crosscheck::config::Configuration;
+use crosscheck::config::{Configuration, ListedEndpoint};
 use crosscheck::faults::Direction;
 use crosscheck::numbers::{Endpoint, Guest};
-use crosscheck::places::{Settings, State, TABLE_WORDS};
+use crosscheck::places::{Settings, State, ENDPOINT_REGION_WORDS, TABLE_WORDS};
 
 pub struct Archived {
     state: State,
@@ -17,6 +17,7 @@ impl Archived {
         let listed = &configuration.endpoints;
         let endpoints: Vec<u32> = listed.iter().map(|entry| entry.endpoint.0).collect();
         let owners: Vec<u8> = listed.iter().map(|entry| entry.owner.0).collect();
+        let regions = region_words(listed);
         let mut table = vec![0; TABLE_WORDS];
         // SAFETY: each pointer is lent with the length of its list.
         let given = unsafe {
@@ -26,6 +27,8 @@ impl Archived {
                 endpoints.len(),
                 owners.as_ptr(),
                 owners.len(),
+                regions.as_ptr(),
+                regions.len(),
                 table.as_mut_ptr(),
                 table.len(),
             )
@@ -107,4 +110,17 @@ impl Archived {
     pub fn logged(&self) -> usize {
         self.state.logged.iter().sum()
     }
+}
+
+/// The words of the endpoints' regions, as set-up is lent them: as many for each endpoint.
+fn region_words(listed: &[ListedEndpoint]) -> Vec<u64> {
+    let mut words = Vec::new();
+    for (place, entry) in listed.iter().enumerate() {
+        words.push(entry.regions.len() as u64);
+        for region in &entry.regions {
+            words.extend([region.subtype.into(), region.start, region.end]);
+        }
+        words.resize(ENDPOINT_REGION_WORDS * (place + 1), 0);
+    }
+    words
 }

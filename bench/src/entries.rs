@@ -45,6 +45,8 @@ extern "C" {
         endpoint_count: usize,
         owners: *const u8,
         owner_count: usize,
+        regions: *const u64,
+        region_words: usize,
         table: *mut u64,
         words: usize,
     ) -> SetUpGiven;

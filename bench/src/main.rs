@@ -21,6 +21,7 @@ use crosscheck::figures::{held_against, Spread};
 use crosscheck::numbers::Guest;
 use crosscheck::places::State;
 use crosscheck::record::Record;
+use crosscheck::regions::MOST_REGIONS;
 use flat::Flat;
 use std::hint::black_box;
 use std::time::Instant;
@@ -42,7 +43,7 @@ fn main() {
     println!("  a state handed over by value and back: {}", handing_over());
     for live in LIVE {
         println!("{live} live records:");
-        let mut devices = Devices::with_live(live);
+        let mut devices = Devices::with_live(live, 0);
         let unlisted = spread(&[setting::unlisted()]);
         let fetches = spread(&[Record::Fetch { guest: Guest(0), asked: 0 }]);
         devices.report_test("empty logs");
@@ -56,6 +57,9 @@ fn main() {
         if live > 0 {
             devices.report("full logs, access through", 0, &spread(&setting::hits(live)));
         }
+        let mut reserved = Devices::with_live(live, MOST_REGIONS as u64);
+        reserved.fill_logs();
+        reserved.report_test("full logs, four regions of each endpoint");
     }
 }
 
@@ -71,9 +75,10 @@ struct Devices {
 }
 
 impl Devices {
-    /// Sets up both and brings them to so many live records by the same calls.
-    fn with_live(live: u32) -> Self {
-        let configuration = setting::configuration();
+    /// Sets up both, with so many regions of each endpoint, and brings them to so many live records by
+    /// the same calls.
+    fn with_live(live: u32, regions: u64) -> Self {
+        let configuration = setting::configuration(regions);
         let archived = Archived::set_up(&configuration);
         let second = Device::set_up(configuration).expect("a good configuration");
         let mut devices = Devices { archived, second };
@@ -160,7 +165,7 @@ extern "C" fn hand_back(state: State) -> entries::FetchGiven {
 
 /// The nanoseconds of such a fetch, with the state put back in its place as after any call.
 fn handing_over() -> Spread {
-    let mut state = Archived::set_up(&setting::configuration()).state();
+    let mut state = Archived::set_up(&setting::configuration(0)).state();
     let entry: extern "C" fn(State) -> entries::FetchGiven = black_box(hand_back);
     let fetch = |state: &mut State| *state = entry(*state).state;
     let times: Vec<f64> =

@@ -4,6 +4,7 @@ use crosscheck::config::{Configuration, GuestShare, ListedEndpoint};
 use crosscheck::faults::LOG_PLACES;
 use crosscheck::numbers::{Domain, Endpoint, Guest};
 use crosscheck::record::Record;
+use crosscheck::regions::Region;
 
 const GUESTS: u32 = 4;
 const ENDPOINTS: u32 = 32;
@@ -11,10 +12,14 @@ const ENDPOINTS: u32 = 32;
 const DOMAINS: u32 = 4;
 const PAGE: u64 = 0x1000;
 
-pub fn configuration() -> Configuration {
+/// With so many reserved regions for each endpoint.
+pub fn configuration(regions: u64) -> Configuration {
     let guest =
         |guest| GuestShare { share: 64, window: window(guest)..=window(guest) + 0xfff_ffff };
-    let entry = |place| ListedEndpoint::new(endpoint(place), owner(place));
+    let entry = |place| ListedEndpoint {
+        regions: (0..regions).map(region).collect(),
+        ..ListedEndpoint::new(endpoint(place), owner(place))
+    };
     Configuration {
         guests: (0..GUESTS).map(guest).collect(),
         endpoints: (0..ENDPOINTS).map(entry).collect(),
@@ -55,6 +60,12 @@ fn map(slot: u32) -> Record {
     let start = first_address(slot);
     let phys = window(slot % GUESTS) + PAGE * u64::from(slot);
     Record::map(owner(slot), domain(slot / GUESTS), (start, start + PAGE - 1), phys, 3)
+}
+
+/// A page between two records of a domain, or past them; the first one is MSI.
+fn region(place: u64) -> Region {
+    let start = PAGE * (8 * place + 1);
+    Region { subtype: (place == 0).into(), start, end: start + PAGE - 1 }
 }
 
 fn first_address(slot: u32) -> u64 {

@@ -70,12 +70,20 @@ static void try_table(struct random *r, const struct device *d)
         try_two(r, d, i, i + 1 + below(r, VIOMMU_TABLE_WORDS - i - 1));
 }
 
-/* Whether the element of the field stands in a place of a guest, an endpoint or a fault that is not in use. */
+/* Whether word i of the regions is not in use: of an endpoint that is not listed, or after the regions that there are. */
+static int is_unused_word(const struct viommu_state *s, size_t i)
+{
+    size_t endpoint = i / VIOMMU_ENDPOINT_REGION_WORDS, word = i % VIOMMU_ENDPOINT_REGION_WORDS;
+    return endpoint >= s->listed || word > VIOMMU_REGION_WORDS * s->regions[VIOMMU_ENDPOINT_REGION_WORDS * endpoint];
+}
+
+/* Whether the element of the field stands in a place of a guest, an endpoint, a region or a fault that is not in use. */
 static int is_unused(const struct viommu_state *s, struct field f, size_t i)
 {
     switch (f.count) {
     case VIOMMU_GUESTS: return i >= s->settings.guests;
     case VIOMMU_ENDPOINTS: return i >= s->listed;
+    case VIOMMU_REGION_PLACES: return is_unused_word(s, i);
     case VIOMMU_FAULT_PLACES: return i % VIOMMU_FAULTS >= s->logged[i / VIOMMU_FAULTS];
     default: return 0;
     }

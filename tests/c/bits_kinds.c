@@ -5,13 +5,15 @@
 #include "distinct.h"
 #include "driver.h"
 #include "expect.h"
+#include "regions.h"
 
 static struct driver held; /* the device that is being made */
 
-static void set_up(struct viommu_settings s, const uint32_t *endpoints, const uint8_t *owners, size_t count)
+static void set_up(struct viommu_settings s, const uint32_t *endpoints, const uint8_t *owners, const uint64_t *regions,
+                   size_t count)
 {
-    struct viommu_set_up_given given =
-        viommu_set_up(s, endpoints, count, owners, count, held.table, VIOMMU_TABLE_WORDS);
+    struct viommu_set_up_given given = viommu_set_up(s, endpoints, count, owners, count, regions, REGION_WORDS(count),
+                                                     held.table, VIOMMU_TABLE_WORDS);
     EXPECT(given.number == VIOMMU_DONE);
     held.state = given.state;
 }
@@ -40,21 +42,29 @@ static void bare(void)
 {
     static const uint32_t endpoints[] = {0};
     static const uint8_t owners[] = {0};
-    set_up(one_guest(1, 0x1000), endpoints, owners, 0);
+    set_up(one_guest(1, 0x1000), endpoints, owners, no_regions, 0);
 }
 
 /* Three guests with five endpoints, of which three are attached. Bytes are the granularity: in each domain the records lie end
-   to end, the first with an even last address, so that one bit more makes it share one address with the next. */
+   to end, the first with an even last address, so that one bit more makes it share one address with the next. The regions
+   of two that are attached lie end to end with their records; one that is not attached has every address reserved. */
 static void end_to_end(void)
 {
     static const uint32_t endpoints[] = {0x10000008, 0x00000008, 0x01000008, 0x00010008, 0x00000108};
     static const uint8_t owners[] = {2, 0, 2, 1, 0};
+    static const struct viommu_regions regions[] = {
+        {1, {{VIOMMU_REGION_MSI, UINT64_MAX - 2, UINT64_MAX - 2}}},
+        {2, {{VIOMMU_REGION_RESERVED, 0x21, 0x2f}, {VIOMMU_REGION_RESERVED, 0, 0xf}}},
+        {0, {{0}}},
+        {1, {{VIOMMU_REGION_RESERVED, 0, UINT64_MAX}}},
+        {0, {{0}}},
+    };
     struct viommu_settings s = one_guest(3, 0x8000000000000001);
     s.guests = 3;
     s.shares[2] = 4;
     s.firsts[1] = 0x7000000000000000, s.lasts[1] = UINT64_MAX;
     s.firsts[2] = 0x90000000, s.lasts[2] = 0x9000ffff;
-    set_up(s, endpoints, owners, 5);
+    set_up(s, endpoints, owners, &regions[0].count, 5);
     ask_ok(0, attach(0, 0x00000008, 0));
     ask_ok(2, attach(0, 0x10000008, 0));
     ask_ok(2, attach(0xfffffff0, 0x01000008, 0));
@@ -72,7 +82,7 @@ static void full(void)
 {
     static const uint32_t endpoints[] = {8};
     static const uint8_t owners[] = {0};
-    set_up(one_guest(VIOMMU_RECORDS, 0x1000), endpoints, owners, 1);
+    set_up(one_guest(VIOMMU_RECORDS, 0x1000), endpoints, owners, no_regions, 1);
     for (uint64_t n = 0; n < VIOMMU_FAULTS + 1; n++)
         EXPECT(reach(&held, 8, n, VIOMMU_READ).number == VIOMMU_UNATTACHED);
     ask_ok(0, attach(0, 8, 0));
@@ -80,14 +90,16 @@ static void full(void)
         ask_ok(0, map(0, 0x2000 * n, 0x2000 * n + 0xfff, 0x80000000 + 0x1000 * n, 3));
 }
 
-/* Four guests with all endpoints, each attached to a domain of its own, with a record and a full log each. */
+/* Four guests with all endpoints and regions of each number, each attached to a domain of its own, with a record and a full
+   log each. */
 static void all_in_use(void)
 {
     uint32_t endpoints[VIOMMU_ENDPOINTS];
     uint8_t owners[VIOMMU_ENDPOINTS];
+    struct viommu_regions regions[VIOMMU_ENDPOINTS];
     for (size_t i = 0; i < VIOMMU_ENDPOINTS; i++)
-        endpoints[i] = distinct_endpoint(i), owners[i] = distinct_owner(i);
-    set_up(distinct_settings(), endpoints, owners, VIOMMU_ENDPOINTS);
+        endpoints[i] = distinct_endpoint(i), owners[i] = distinct_owner(i), regions[i] = distinct_regions(i);
+    set_up(distinct_settings(), endpoints, owners, &regions[0].count, VIOMMU_ENDPOINTS);
     for (size_t place = 0; place < VIOMMU_FAULT_PLACES; place++) {
         struct fault f = distinct_fault(place);
         EXPECT(reach(&held, f.source, f.address, f.kind).number == VIOMMU_UNATTACHED);

@@ -31,6 +31,18 @@ uint32_t distinct_domain(size_t i)
     return (uint32_t)(0x01020304 + 0x01000001 * i);
 }
 
+/* The regions lie apart, above all records; one is MSI, another for each endpoint in turn. */
+struct viommu_regions distinct_regions(size_t i)
+{
+    struct viommu_regions q = {.count = (i + 3) % (VIOMMU_REGIONS + 1)};
+    for (size_t j = 0; j < VIOMMU_REGIONS; j++) {
+        q.region[j].subtype = j == i % VIOMMU_REGIONS ? VIOMMU_REGION_MSI : VIOMMU_REGION_RESERVED;
+        q.region[j].start = 0x9000000000000000 + 0x0001020304050607 * (VIOMMU_REGIONS * i + j);
+        q.region[j].end = q.region[j].start + 0x0000a1a2a3a4a5a6;
+    }
+    return q;
+}
+
 /* The first eight faults of a log come from endpoints that are not attached yet, the other eight from the same ones,
    attached; reads and writes take turns. */
 struct fault distinct_fault(size_t place)

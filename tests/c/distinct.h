@@ -11,6 +11,9 @@ uint32_t distinct_endpoint(size_t i);
 uint8_t distinct_owner(size_t i);
 uint32_t distinct_domain(size_t i);
 
+/* The regions of the endpoint at place i, as set-up is lent them: 3, 4, 0, 1, 2, 3 and so on, and all four places filled. */
+struct viommu_regions distinct_regions(size_t i);
+
 /* The fault that is to stand at a place of the logs. */
 struct fault {
     uint8_t reason;

@@ -4,13 +4,15 @@
 #include <string.h>
 
 #include "expect.h"
+#include "regions.h"
 
 uint8_t start(struct driver *d, struct viommu_settings settings)
 {
     static const uint32_t endpoints[] = {8, 9, 10, 11};
     static const uint8_t owners[] = {0, 1, 2, 3};
-    struct viommu_set_up_given given = viommu_set_up(settings, endpoints, settings.guests, owners, settings.guests,
-                                                     d->table, VIOMMU_TABLE_WORDS);
+    struct viommu_set_up_given given =
+        viommu_set_up(settings, endpoints, settings.guests, owners, settings.guests, no_regions,
+                      REGION_WORDS(settings.guests), d->table, VIOMMU_TABLE_WORDS);
     d->state = given.state;
     return given.number;
 }

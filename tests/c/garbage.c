@@ -71,10 +71,12 @@ static void report_all(void)
 {
     report("set-up", met.numbers[SET_UP], "025");
     report("request", met.numbers[REQUEST], "01234");
-    report("status", met.statuses, "045678");
+    report("status", met.statuses, "0245678");
     report("access", met.numbers[ACCESS], "02678");
     report("reset", met.numbers[RESET], "012");
     report("fetch", met.numbers[FETCH], "012");
+    printf("garbage: PROBE    OK:%" PRIu64 " NOENT:%" PRIu64 "\n", met.probes[1], met.probes[0]);
+    EXPECT(met.probes[0] > 0 && met.probes[1] > 0);
     for (size_t way = 0; way < ways_to_break(); way++)
         if (met_ways[way] == 0)
             fprintf(stderr, "not met: %s\n", name_of_way(way)), exit(1);

@@ -1,7 +1,7 @@
 /* One list of the ways to break a sound device. */
 #include "garbage_break.h"
 
-static const struct way *const lists[] = {configuration_ways, record_ways, place_ways};
+static const struct way *const lists[] = {configuration_ways, record_ways, place_ways, region_ways};
 
 /* The way of this number, counted through the lists; null after the last. */
 static const struct way *numbered(size_t n)

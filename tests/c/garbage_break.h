@@ -1,4 +1,5 @@
-/* Ways to break a sound device, for each clause of document 01's "sound": after any of them it is not sound for certain. */
+/* Ways to break a sound device, for each clause of "sound" in documents 01 and 02: after any of them it is not sound for
+   certain. */
 #ifndef GARBAGE_BREAK_H
 #define GARBAGE_BREAK_H
 
@@ -16,6 +17,7 @@ struct way {
 extern const struct way configuration_ways[];
 extern const struct way record_ways[];
 extern const struct way place_ways[];
+extern const struct way region_ways[];
 
 /* A place below n, by a number that was drawn; n is not 0. */
 static inline size_t pick(uint64_t drawn, size_t n)

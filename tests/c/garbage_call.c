@@ -70,7 +70,7 @@ static size_t written(const struct call *c, const struct outcome *o)
     if (o->number != VIOMMU_DONE)
         return 0;
     if (c->entry == REQUEST)
-        return 4;
+        return o->value;
     return c->entry == FETCH ? VIOMMU_FAULT_BYTES * o->value : 0;
 }
 
@@ -85,21 +85,38 @@ static void check_served(const struct viommu_state *before, const struct viommu_
     EXPECT(after->live <= before->live + 1);
 }
 
-/* A request that was worked: its four status bytes. Gives the status. */
-static uint8_t check_status(const uint8_t *writable, struct met *met)
+/* A request that was worked: its last four bytes, the status among them. UNSUPP is ATTACH's. Gives the status. */
+static uint8_t check_status(const struct call *c, const uint8_t *last, struct met *met)
 {
-    static const uint8_t may_be_given[NUMBERS] = {1, 0, 0, 0, 1, 1, 1, 1, 1};
-    EXPECT(writable[0] < NUMBERS && may_be_given[writable[0]]);
-    EXPECT(writable[1] == 0 && writable[2] == 0 && writable[3] == 0);
-    met->statuses[writable[0]]++;
-    return writable[0];
+    static const uint8_t may_be_given[NUMBERS] = {1, 0, 1, 0, 1, 1, 1, 1, 1};
+    EXPECT(last[0] < NUMBERS && may_be_given[last[0]]);
+    EXPECT(last[0] != VIOMMU_STATUS_UNSUPP || c->readable[0] == VIOMMU_ATTACH);
+    EXPECT(last[1] == 0 && last[2] == 0 && last[3] == 0);
+    met->statuses[last[0]]++;
+    return last[0];
+}
+
+/* Whether the call may have moved attachments and records: a request answered OK that is no PROBE. A PROBE's bytes are checked
+   whole. */
+static int may_have_moved(const struct call *c, const struct outcome *o, struct memory m, const struct device *d,
+                          struct met *met)
+{
+    if (o->number != VIOMMU_DONE || c->entry != REQUEST)
+        return 0;
+    uint8_t status = check_status(c, m.writable + c->writable_bytes - VIOMMU_STATUS_BYTES, met);
+    if (!is_probe(c))
+        return status == VIOMMU_STATUS_OK;
+    uint8_t wanted[VIOMMU_PROBE_BYTES];
+    wanted_probe(c, &d->state, wanted);
+    EXPECT(memcmp(m.writable, wanted, sizeof wanted) == 0);
+    met->probes[status == VIOMMU_STATUS_OK]++;
+    return 0;
 }
 
 /* State and table afterwards; d is still as before the call, and becomes as after it. */
 static void check_effect(const struct call *c, const struct outcome *o, struct memory m, struct device *d, struct met *met)
 {
-    int moved = o->number == VIOMMU_DONE && c->entry == REQUEST && check_status(m.writable, met) == VIOMMU_STATUS_OK;
-    if (moved) {
+    if (may_have_moved(c, o, m, d, met)) {
         check_served(&d->state, &o->state);
         d->state = o->state;
         memcpy(d->table, m.table, d->words * 8);

@@ -21,6 +21,7 @@ const struct field fields[] = {
     MANY(owners, VIOMMU_ENDPOINTS),
     MANY(attached, VIOMMU_ENDPOINTS),
     MANY(domains, VIOMMU_ENDPOINTS),
+    MANY(regions, VIOMMU_REGION_PLACES),
     ONE(live),
     MANY(logged, VIOMMU_GUESTS),
     MANY(lost, VIOMMU_GUESTS),

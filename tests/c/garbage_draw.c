@@ -85,7 +85,9 @@ static struct readable draw_unmap(struct random *r, const struct viommu_state *s
 static struct readable draw_request(struct random *r, const struct viommu_state *s, uint8_t guest)
 {
     uint64_t reserved = once_in(r, 24) ? edge(r) : 0;
-    uint64_t turn = below(r, 32);
+    uint64_t turn = below(r, 34);
+    if (turn >= 32)
+        return probe(draw_endpoint(r, s, guest));
     if (turn < 8)
         return attach(draw_domain(r, s, guest), draw_endpoint(r, s, guest), reserved);
     if (turn < 10)
@@ -100,11 +102,11 @@ static void fill_request(struct random *r, const struct viommu_state *s, struct 
     scatter(r, c->readable, sizeof c->readable);
     memcpy(c->readable, q.bytes, q.count);
     c->readable_bytes = q.count;
-    c->writable_bytes = 4;
+    c->writable_bytes = q.bytes[0] == VIOMMU_PROBE ? VIOMMU_PROBE_BYTES : VIOMMU_STATUS_BYTES;
     switch (below(r, 24)) {
     case 0: c->readable[0] = (uint8_t)below(r, 256); break;
     case 1: c->readable_bytes = below(r, READABLE_MOST + 1); break;
-    case 2: c->writable_bytes = below(r, 9); break;
+    case 2: c->writable_bytes = once_in(r, 2) ? below(r, 9) : VIOMMU_PROBE_BYTES - 2 + below(r, 5); break;
     case 3: c->readable[below(r, q.count)] = (uint8_t)draw(r); break;
     case 4: scatter(r, c->readable, sizeof c->readable), c->readable_bytes = below(r, READABLE_MOST + 1); break;
     default: break;

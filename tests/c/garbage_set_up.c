@@ -26,8 +26,8 @@ static struct viommu_settings draw_good(struct random *r)
     return s;
 }
 
-/* Endpoint numbers that are unlike each other, each with an owner below the guest count. */
-static struct lists draw_lists(struct random *r, size_t guests)
+/* Endpoint numbers that are unlike each other, each with an owner below the guest count, and good regions. */
+static struct lists draw_lists(struct random *r, const struct viommu_settings *s)
 {
     struct lists l;
     memset(&l, 0, sizeof l);
@@ -35,8 +35,9 @@ static struct lists draw_lists(struct random *r, size_t guests)
     l.owner_count = l.endpoint_count;
     for (size_t i = 0; i < l.endpoint_count; i++) {
         l.endpoints[i] = (uint32_t)(below(r, 1000) * LIST_MOST + i);
-        l.owners[i] = (uint8_t)below(r, guests);
+        l.owners[i] = (uint8_t)below(r, s->guests);
     }
+    draw_regions(r, s, &l);
     return l;
 }
 
@@ -44,7 +45,7 @@ static struct lists draw_lists(struct random *r, size_t guests)
 static void spoil(struct random *r, struct viommu_settings *s, struct lists *l)
 {
     size_t g = below(r, VIOMMU_GUESTS);
-    switch (below(r, 12)) {
+    switch (below(r, 18)) {
     case 0: s->guests = once_in(r, 2) ? edge(r) : s->guests | (size_t)1 << below(r, 64); break;
     case 1: s->shares[g] = (uint32_t)edge(r); break;
     case 2: s->firsts[g] = edge(r); break;
@@ -56,7 +57,8 @@ static void spoil(struct random *r, struct viommu_settings *s, struct lists *l)
     case 8: l->endpoint_count = below(r, LIST_MOST + 1); break;
     case 9: l->owner_count = below(r, LIST_MOST + 1); break;
     case 10: l->owners[below(r, LIST_MOST)] = (uint8_t)edge(r); break;
-    default: l->endpoints[below(r, LIST_MOST)] = l->endpoints[below(r, LIST_MOST)]; break;
+    case 11: l->endpoints[below(r, LIST_MOST)] = l->endpoints[below(r, LIST_MOST)]; break;
+    default: spoil_regions(r, l); break;
     }
 }
 
@@ -71,6 +73,9 @@ static struct viommu_state started(struct viommu_settings s, const struct lists 
     w.listed = l->endpoint_count;
     memcpy(w.endpoints, l->endpoints, l->endpoint_count * sizeof *l->endpoints);
     memcpy(w.owners, l->owners, l->owner_count);
+    for (size_t i = 0; i < l->endpoint_count; i++)
+        memcpy(w.regions + VIOMMU_ENDPOINT_REGION_WORDS * i, &l->regions[i],
+               region_words_used(&l->regions[i]) * sizeof *w.regions);
     return w;
 }
 
@@ -92,16 +97,19 @@ static uint8_t set_up_number(const struct viommu_settings *s, const struct lists
 /* Calls set-up on lent copies of the lists and of the device's table, and takes over what it gives. */
 static int call_set_up(struct viommu_settings s, const struct lists *l, struct device *d, struct met *met)
 {
-    static struct lent endpoints, owners, table;
+    static struct lent endpoints, owners, regions, table;
     if (!table.room) {
         endpoints = lent_room(sizeof l->endpoints);
         owners = lent_room(sizeof l->owners);
+        regions = lent_room(sizeof l->regions);
         table = lent_room(sizeof d->table);
     }
     uint32_t *e = memcpy(lent_part(endpoints, l->endpoint_count * 4), l->endpoints, l->endpoint_count * 4);
     uint8_t *o = memcpy(lent_part(owners, l->owner_count), l->owners, l->owner_count);
+    uint64_t *q = memcpy(lent_part(regions, l->region_words * 8), l->regions, l->region_words * 8);
     uint64_t *t = memcpy(lent_part(table, d->words * 8), d->table, d->words * 8);
-    struct viommu_set_up_given given = viommu_set_up(s, e, l->endpoint_count, o, l->owner_count, t, d->words);
+    struct viommu_set_up_given given =
+        viommu_set_up(s, e, l->endpoint_count, o, l->owner_count, q, l->region_words, t, d->words);
     int done = given.number == VIOMMU_DONE;
     struct viommu_state wanted;
     memset(&wanted, 0, sizeof wanted);
@@ -112,6 +120,7 @@ static int call_set_up(struct viommu_settings s, const struct lists *l, struct d
     check_table(t, d, done);
     lent_check(endpoints, l->endpoint_count * 4);
     lent_check(owners, l->owner_count);
+    lent_check(regions, l->region_words * 8);
     lent_check(table, d->words * 8);
     met->calls++;
     met->numbers[SET_UP][given.number]++;
@@ -123,7 +132,7 @@ static int call_set_up(struct viommu_settings s, const struct lists *l, struct d
 int try_set_up(struct random *r, struct device *d, struct met *met)
 {
     struct viommu_settings s = draw_good(r);
-    struct lists l = draw_lists(r, s.guests);
+    struct lists l = draw_lists(r, &s);
     d->words = VIOMMU_TABLE_WORDS;
     scatter(r, d->table, sizeof d->table);
     if (once_in(r, 2))

@@ -1,4 +1,4 @@
-/* "State and table are sound when:" each clause of document 01 holds. */
+/* "State and table are sound when:" each clause of documents 01 and 02 holds. */
 #include <string.h>
 
 #include "garbage.h"
@@ -8,9 +8,11 @@
 /* "the configuration is good" */
 static int configuration_good(const struct viommu_state *s)
 {
-    struct lists l = {.endpoint_count = s->listed, .owner_count = s->listed};
+    struct lists l = {
+        .endpoint_count = s->listed, .owner_count = s->listed, .region_words = VIOMMU_ENDPOINT_REGION_WORDS * s->listed};
     memcpy(l.endpoints, s->endpoints, sizeof s->endpoints);
     memcpy(l.owners, s->owners, sizeof s->owners);
+    memcpy(l.regions, s->regions, sizeof s->regions);
     return s->listed <= VIOMMU_ENDPOINTS && good(&s->settings, &l);
 }
 
@@ -24,6 +26,19 @@ static int unused_zero(const struct viommu_state *s)
     for (size_t i = s->listed; i < VIOMMU_ENDPOINTS; i++)
         if (s->endpoints[i] != 0 || s->owners[i] != 0 || s->attached[i] != 0 || s->domains[i] != 0)
             return 0;
+    return 1;
+}
+
+/* "unused region places are zero" */
+static int unused_regions_zero(const struct viommu_state *s)
+{
+    for (size_t i = 0; i < VIOMMU_ENDPOINTS; i++) {
+        struct viommu_regions q = regions_at(s, i);
+        size_t used = i < s->listed ? region_words_used(&q) : 0;
+        for (size_t k = used; k < VIOMMU_ENDPOINT_REGION_WORDS; k++)
+            if (s->regions[VIOMMU_ENDPOINT_REGION_WORDS * i + k] != 0)
+                return 0;
+    }
     return 1;
 }
 
@@ -45,6 +60,20 @@ static int exists(const struct viommu_state *s, uint64_t guest, uint64_t domain)
     for (size_t i = 0; i < s->listed; i++)
         if (s->attached[i] == 1 && s->owners[i] == guest && s->domains[i] == domain)
             return 1;
+    return 0;
+}
+
+/* "overlapping a region of any endpoint in the domain": whether the record does. */
+static int on_region(const struct viommu_state *s, const uint64_t *w)
+{
+    for (size_t i = 0; i < s->listed; i++) {
+        struct viommu_regions q = regions_at(s, i);
+        if (s->attached[i] != 1 || ((uint64_t)s->owners[i] << 32) + s->domains[i] != w[0])
+            continue;
+        for (size_t j = 0; j < q.count; j++)
+            if (ranges_meet(w[1], w[2], q.region[j].start, q.region[j].end))
+                return 1;
+    }
     return 0;
 }
 
@@ -87,7 +116,7 @@ static int records_good(const struct device *d)
     if (d->state.live > VIOMMU_RECORDS)
         return 0;
     for (size_t i = 0; i < d->state.live; i++) {
-        if (!record_good(&d->state, RECORD(d, i)))
+        if (!record_good(&d->state, RECORD(d, i)) || on_region(&d->state, RECORD(d, i)))
             return 0;
         held[RECORD(d, i)[0] >> 32]++;
     }
@@ -128,7 +157,7 @@ static int logs_good(const struct viommu_state *s)
 enum soundness soundness_of(const struct device *d)
 {
     const struct viommu_state *s = &d->state;
-    int sound = d->words == VIOMMU_TABLE_WORDS && configuration_good(s) && unused_zero(s) && attachments_good(s) &&
-                records_good(d) && logs_good(s);
+    int sound = d->words == VIOMMU_TABLE_WORDS && configuration_good(s) && unused_zero(s) && unused_regions_zero(s) &&
+                attachments_good(s) && records_good(d) && logs_good(s);
     return sound ? SOUND : BROKEN;
 }

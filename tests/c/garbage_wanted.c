@@ -1,8 +1,9 @@
 /* The number that document 01 asks for, and the value beside it. */
 #include "garbage.h"
 
-/* The length of a request's readable part, by type. */
-static const size_t readable_lengths[] = {0, 20, 20, 36, 28};
+/* The lengths of a request's readable and writable parts, by type. */
+static const size_t readable_lengths[] = {0, 20, 20, 36, 28, 72};
+static const size_t writable_lengths[] = {0, 4, 4, 4, 4, 132};
 
 /* "4 (below 4 bytes), 3, 4 (lengths)" */
 static unsigned request_number(const struct call *c)
@@ -10,9 +11,9 @@ static unsigned request_number(const struct call *c)
     uint8_t type = c->readable[0];
     if (c->readable_bytes < 4)
         return VIOMMU_WRONG_LENGTH;
-    if (type < 1 || 4 < type)
+    if (type < 1 || 5 < type)
         return VIOMMU_UNKNOWN_TYPE;
-    if (c->readable_bytes != readable_lengths[type] || c->writable_bytes != 4)
+    if (c->readable_bytes != readable_lengths[type] || c->writable_bytes != writable_lengths[type])
         return VIOMMU_WRONG_LENGTH;
     return VIOMMU_DONE;
 }
@@ -70,7 +71,7 @@ unsigned wanted_number(const struct call *c, const struct device *d, enum soundn
 uint64_t wanted_value(const struct call *c, const struct device *d)
 {
     if (c->entry == REQUEST)
-        return 4;
+        return writable_lengths[c->readable[0]];
     if (c->entry == ACCESS) {
         const uint64_t *w = permitting(c, d);
         return c->address - w[1] + w[3];

@@ -53,9 +53,12 @@ static void check_left(const struct driver *lent, const struct viommu_state *giv
 static void check_request(struct viommu_guest guest, struct readable r, uint8_t wanted)
 {
     struct driver lent = device;
-    uint8_t writable[4] = {0xa1, 0xa2, 0xa3, 0xa4}, before[4] = {0xa1, 0xa2, 0xa3, 0xa4};
+    uint8_t writable[VIOMMU_PROBE_BYTES], before[VIOMMU_PROBE_BYTES];
+    size_t bytes = r.bytes[0] == VIOMMU_PROBE ? VIOMMU_PROBE_BYTES : VIOMMU_STATUS_BYTES;
+    memset(writable, 0xa1, sizeof writable);
+    memset(before, 0xa1, sizeof before);
     struct viommu_request_given given =
-        viommu_request(lent.state, lent.table, VIOMMU_TABLE_WORDS, guest, r.bytes, r.count, writable, sizeof writable);
+        viommu_request(lent.state, lent.table, VIOMMU_TABLE_WORDS, guest, r.bytes, r.count, writable, bytes);
     EXPECT(given.number == wanted && given.used == 0);
     EXPECT(memcmp(writable, before, sizeof before) == 0);
     check_left(&lent, &given.state);
@@ -86,12 +89,13 @@ static void check_fetch(struct viommu_guest guest, uint8_t wanted)
 static void check_refused(struct viommu_guest guest, uint8_t g, uint8_t wanted)
 {
     struct readable unknown = attach(1, 8u + g, 0), cut = attach(1, 8u + g, 0);
-    unknown.bytes[0] = 5;
+    unknown.bytes[0] = 6;
     cut.count = 3;
     check_request(guest, attach(2, 8u + g, 0), wanted);
     check_request(guest, detach(1, 8u + g, 0), wanted);
     check_request(guest, map(1, 0x8000, 0x8fff, device.state.settings.firsts[g], 3), wanted);
     check_request(guest, unmap(1, 0, UINT64_MAX, 0), wanted);
+    check_request(guest, probe(8u + g), wanted);
     check_request(guest, unknown, wanted);
     check_request(guest, cut, wanted);
     check_reset(guest, wanted);

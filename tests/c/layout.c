@@ -9,11 +9,24 @@
 
 static struct driver device;
 
-/* Set-up has given back each setting, each endpoint and each owner at its place, and zero at all others. */
+/* The regions of all endpoints as they are lent; and those in use, with zeros after them, as they are to stand in the state. */
+static struct viommu_regions regions[VIOMMU_ENDPOINTS];
+
+static void fill_regions(uint64_t *wanted)
+{
+    for (size_t i = 0; i < VIOMMU_ENDPOINTS; i++) {
+        size_t used = 1 + VIOMMU_REGION_WORDS * distinct_regions(i).count;
+        regions[i] = distinct_regions(i);
+        memcpy(wanted + VIOMMU_ENDPOINT_REGION_WORDS * i, &regions[i], used * sizeof *wanted);
+    }
+}
+
+/* Set-up has given back each setting, each endpoint, each owner and each region at its place, and zero at all others. */
 static void set_up(void)
 {
     struct viommu_state wanted;
     memset(&wanted, 0, sizeof wanted);
+    fill_regions(wanted.regions);
     wanted.settings = distinct_settings();
     wanted.listed = VIOMMU_ENDPOINTS;
     for (size_t i = 0; i < VIOMMU_ENDPOINTS; i++) {
@@ -21,8 +34,9 @@ static void set_up(void)
         wanted.owners[i] = distinct_owner(i);
     }
     memset(device.table, 0xa5, sizeof device.table);
-    struct viommu_set_up_given given = viommu_set_up(wanted.settings, wanted.endpoints, VIOMMU_ENDPOINTS, wanted.owners,
-                                                     VIOMMU_ENDPOINTS, device.table, VIOMMU_TABLE_WORDS);
+    struct viommu_set_up_given given =
+        viommu_set_up(wanted.settings, wanted.endpoints, VIOMMU_ENDPOINTS, wanted.owners, VIOMMU_ENDPOINTS,
+                      &regions[0].count, VIOMMU_REGION_PLACES, device.table, VIOMMU_TABLE_WORDS);
     EXPECT(given.number == VIOMMU_DONE);
     EXPECT(memcmp(&given.state, &wanted, sizeof wanted) == 0);
     for (size_t i = 0; i < VIOMMU_TABLE_WORDS; i++)
@@ -105,6 +119,29 @@ static uint64_t number_at(const uint8_t *bytes, size_t count)
     return n;
 }
 
+/* The regions of the endpoint at this place leave by PROBE in 24 bytes each, with zeros after them and then the status. */
+static void check_probed(size_t place)
+{
+    struct viommu_guest guest = {distinct_owner(place)};
+    struct viommu_regions q = distinct_regions(place);
+    struct readable r = probe(distinct_endpoint(place));
+    uint8_t writable[VIOMMU_PROBE_BYTES];
+    memset(writable, 0xee, sizeof writable);
+    struct viommu_request_given given = viommu_request(device.state, device.table, VIOMMU_TABLE_WORDS, guest, r.bytes,
+                                                       r.count, writable, sizeof writable);
+    EXPECT(given.number == VIOMMU_DONE && given.used == VIOMMU_PROBE_BYTES);
+    EXPECT(memcmp(&given.state, &device.state, sizeof device.state) == 0);
+    for (size_t j = 0; j < q.count; j++) {
+        const uint8_t *bytes = writable + j * VIOMMU_PROPERTY_BYTES;
+        EXPECT(number_at(bytes, 2) == 1 && number_at(bytes + 2, 2) == 20);
+        EXPECT(number_at(bytes + 4, 4) == q.region[j].subtype);
+        EXPECT(number_at(bytes + 8, 8) == q.region[j].start);
+        EXPECT(number_at(bytes + 16, 8) == q.region[j].end);
+    }
+    for (size_t i = q.count * VIOMMU_PROPERTY_BYTES; i < sizeof writable; i++)
+        EXPECT(writable[i] == 0);
+}
+
 /* A guest's faults leave in 24 bytes each, and the bytes after them stay. */
 static void check_fetched(uint8_t number)
 {
@@ -152,6 +189,8 @@ int main(void)
     fill();
     check_filled();
     check_through();
+    for (size_t place = 0; place < VIOMMU_ENDPOINTS; place++)
+        check_probed(place);
     for (uint8_t guest = 0; guest < VIOMMU_GUESTS; guest++) {
         check_fetched(guest);
         check_reset(guest);

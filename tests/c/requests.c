@@ -1,4 +1,4 @@
-/* The bytes of requests: document 01's "Request layouts". */
+/* The bytes of requests: document 01's "Request layouts", and PROBE's of document 02. */
 #include "requests.h"
 
 /* The request with one number more, of so many bytes, lowest first. */
@@ -8,13 +8,14 @@ static void put(struct readable *r, uint64_t number, size_t bytes)
         r->bytes[r->count++] = (uint8_t)(number >> (8 * i));
 }
 
-/* The head and the domain. The three bytes after the type are ignored, so they are not zero here. */
-static struct readable headed(uint8_t type, uint32_t domain)
+/* The head and the number after it, a domain or an endpoint. The three bytes after the type are ignored, so they are not zero
+   here. */
+static struct readable headed(uint8_t type, uint32_t number)
 {
     struct readable r = {.count = 0};
     put(&r, type, 1);
     put(&r, 0xc0ffee, 3);
-    put(&r, domain, 4);
+    put(&r, number, 4);
     return r;
 }
 
@@ -50,5 +51,14 @@ struct readable unmap(uint32_t domain, uint64_t start, uint64_t end, uint32_t re
     put(&r, start, 8);
     put(&r, end, 8);
     put(&r, reserved, 4);
+    return r;
+}
+
+/* The 64 bytes after the endpoint are ignored, so they are not zero here. */
+struct readable probe(uint32_t endpoint)
+{
+    struct readable r = headed(VIOMMU_PROBE, endpoint);
+    for (uint64_t i = 0; i < 8; i++)
+        put(&r, 0xc0ffeec0ffee0000 + i, 8);
     return r;
 }

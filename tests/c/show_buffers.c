@@ -105,10 +105,10 @@ static void refused(const struct viommu_state *s)
     struct viommu_state broken = unsound(s);
     struct readable unknown = attach_headed(0, 0);
     struct readable cut = attach_headed(0, 0);
-    unknown.bytes[0] = 5;
+    unknown.bytes[0] = 6;
     cut.count = 19;
     ask("guest 2", s, 2, attach_headed(0, 0), s);
-    ask("type 5", s, 0, unknown, s);
+    ask("type 6", s, 0, unknown, s);
     ask("19 bytes", s, 0, cut, s);
     ask("unsound", &broken, 0, attach_headed(0, 0), &broken);
 }

@@ -8,13 +8,6 @@
 
 #include "shown.h"
 
-/* The first so many of endpoints 8 and 9, and of their owners, guests 0 and 1. */
-static struct lists listed(size_t endpoint_count, size_t owner_count)
-{
-    return (struct lists){
-        .endpoints = {8, 9}, .endpoint_count = endpoint_count, .owners = {0, 1}, .owner_count = owner_count};
-}
-
 /* Sets up with endpoint 8 of guest 0 and endpoint 9 of guest 1. */
 static void with(const char *what, struct viommu_settings c)
 {
@@ -136,7 +129,8 @@ static void show_lists(struct viommu_settings good)
 /* As many endpoints of guest 1, numbered from 1. */
 static void show_endpoints(const char *what, struct viommu_settings good, size_t count)
 {
-    struct lists l = {.endpoint_count = count, .owner_count = count};
+    struct lists l = {
+        .endpoint_count = count, .owner_count = count, .region_words = VIOMMU_ENDPOINT_REGION_WORDS * count};
     for (size_t i = 0; i < count; i++) {
         l.endpoints[i] = (uint32_t)(i + 1);
         l.owners[i] = 1;
@@ -184,8 +178,8 @@ static void show_wide_lists(struct viommu_settings good)
     set_up("endpoints 8 and 2^16 + 8", good, l);
 }
 
-/* The good configuration, then its clauses, as many endpoints as the state has places for and one more, and numbers that are
-   not good in their high bits alone. */
+/* The good configuration, then its clauses, as many endpoints as the state has places for and one more, numbers that are
+   not good in their high bits alone, and reserved regions. */
 int main(void)
 {
     const struct viommu_settings good = shown_settings();
@@ -203,5 +197,7 @@ int main(void)
     show_endpoints("33 endpoints", good, 33);
     show_wide(good);
     show_wide_lists(good);
+    show_good_regions(good);
+    show_bad_regions(good);
     return 0;
 }

@@ -6,7 +6,7 @@
 #include "shown.h"
 
 #define READABLE_MOST (READABLE_ROOM + 1) /* bytes of the longest readable part */
-#define WRITABLE_MOST 5                   /* bytes of the longest writable part */
+#define WRITABLE_MOST 133                 /* bytes of the longest writable part */
 
 /* The two parts of a request: the first bytes of each array. */
 struct parts {
@@ -24,10 +24,9 @@ static struct parts parts_of(uint8_t type, size_t readable_count, size_t writabl
     return p;
 }
 
-/* The readable part is as it was, and so is the writable part, lent or not, but for the four bytes of a status. */
-static void check_parts(const struct parts *before, const struct parts *after, uint8_t number)
+/* The readable part is as it was, and so is the writable part, lent or not, but for the bytes that a request has used. */
+static void check_parts(const struct parts *before, const struct parts *after, size_t written)
 {
-    size_t written = number == VIOMMU_DONE ? 4 : 0;
     EXPECT(memcmp(after->readable, before->readable, sizeof before->readable) == 0);
     for (size_t i = written; i < WRITABLE_MOST; i++)
         EXPECT(after->writable[i] == before->writable[i]);
@@ -46,46 +45,53 @@ static void show(const char *what, const struct driver *d, uint8_t number, struc
     print_value(given.used);
     print_lent(p.writable, p.writable_count);
     print_sums(&given.state, lent.table, VIOMMU_TABLE_WORDS);
-    check_parts(&before, &p, given.number);
+    check_parts(&before, &p, given.used);
     EXPECT(same_state(&given.state, &d->state));
     EXPECT(memcmp(lent.table, d->table, sizeof d->table) == 0);
 }
 
-/* A readable part of so many bytes, and a writable part of the right length. */
-static void show_readable(const char *what, const struct driver *mapped, uint8_t type, size_t count)
+/* Parts of so many bytes, of guest 0. */
+static void show_lengths(const char *what, const struct driver *mapped, uint8_t type, size_t n, size_t m)
 {
-    show(what, mapped, 0, parts_of(type, count, 4));
+    show(what, mapped, 0, parts_of(type, n, m));
 }
 
-/* Writable parts of wrong lengths, beside a readable part of so many bytes. */
-static void show_writable(const char *what, const struct driver *mapped, uint8_t type, size_t count)
+/* A type whose parts have n and m bytes: readable parts of each length, then writable parts that are too short or too long. */
+static void show_type(const char *what, const struct driver *mapped, uint8_t type, size_t n, size_t m)
 {
-    show(what, mapped, 0, parts_of(type, count, 0));
-    show(what, mapped, 0, parts_of(type, count, 3));
-    show(what, mapped, 0, parts_of(type, count, 5));
+    show_lengths(what, mapped, type, 0, m);
+    show_lengths(what, mapped, type, 3, m);
+    show_lengths(what, mapped, type, 4, m);
+    show_lengths(what, mapped, type, n - 1, m);
+    show_lengths(what, mapped, type, n, m);
+    show_lengths(what, mapped, type, n + 1, m);
+    show_lengths(what, mapped, type, n, 0);
+    show_lengths(what, mapped, type, n, m - 1);
+    show_lengths(what, mapped, type, n, m + 1);
 }
 
-/* A type whose readable part has n bytes. */
-static void show_type(const char *what, const struct driver *mapped, uint8_t type, size_t n)
+/* The lengths of one type with those of another. */
+static void show_mixed(const struct driver *mapped)
 {
-    show_readable(what, mapped, type, 0);
-    show_readable(what, mapped, type, 3);
-    show_readable(what, mapped, type, 4);
-    show_readable(what, mapped, type, n - 1);
-    show_readable(what, mapped, type, n);
-    show_readable(what, mapped, type, n + 1);
-    show_writable(what, mapped, type, n);
+    show_lengths("PROBE", mapped, VIOMMU_PROBE, 72, 4);
+    show_lengths("PROBE", mapped, VIOMMU_PROBE, 72, 128);
+    show_lengths("PROBE", mapped, VIOMMU_PROBE, 20, 132);
+    show_lengths("ATTACH", mapped, VIOMMU_ATTACH, 20, 132);
+    show_lengths("ATTACH", mapped, VIOMMU_ATTACH, 72, 4);
 }
 
 /* Types that there are not: 4 below four bytes, else 3, whatever the lengths. */
 static void show_other_types(const struct driver *mapped)
 {
-    show_readable("type 0", mapped, 0, 3);
-    show_readable("type 0", mapped, 0, 4);
-    show_readable("type 0", mapped, 0, 20);
-    show_readable("type 5", mapped, 5, 3);
-    show_readable("type 5", mapped, 5, 4);
-    show_writable("type 255", mapped, 255, 20);
+    show_lengths("type 0", mapped, 0, 3, 4);
+    show_lengths("type 0", mapped, 0, 4, 4);
+    show_lengths("type 0", mapped, 0, 20, 4);
+    show_lengths("type 6", mapped, 6, 3, 4);
+    show_lengths("type 6", mapped, 6, 4, 4);
+    show_lengths("type 6", mapped, 6, 72, 132);
+    show_lengths("type 255", mapped, 255, 20, 0);
+    show_lengths("type 255", mapped, 255, 20, 3);
+    show_lengths("type 255", mapped, 255, 20, 5);
 }
 
 /* What comes before a part's length: 1, then 2. */
@@ -99,10 +105,12 @@ static void show_before(const struct driver *mapped)
 
 void show_parts(const struct driver *mapped)
 {
-    show_type("ATTACH", mapped, VIOMMU_ATTACH, 20);
-    show_type("DETACH", mapped, VIOMMU_DETACH, 20);
-    show_type("MAP", mapped, VIOMMU_MAP, 36);
-    show_type("UNMAP", mapped, VIOMMU_UNMAP, 28);
+    show_type("ATTACH", mapped, VIOMMU_ATTACH, 20, 4);
+    show_type("DETACH", mapped, VIOMMU_DETACH, 20, 4);
+    show_type("MAP", mapped, VIOMMU_MAP, 36, 4);
+    show_type("UNMAP", mapped, VIOMMU_UNMAP, 28, 4);
+    show_type("PROBE", mapped, VIOMMU_PROBE, 72, 132);
+    show_mixed(mapped);
     show_other_types(mapped);
     show_before(mapped);
 }

@@ -2,6 +2,7 @@
 #include <string.h>
 
 #include "expect.h"
+#include "regions.h"
 #include "show_lengths.h"
 #include "shown.h"
 
@@ -106,7 +107,8 @@ static void show_set_up(const char *what, const struct driver *mapped, struct ta
 {
     const uint32_t endpoints[] = {8, other};
     const uint8_t owners[] = {0, 1};
-    struct viommu_set_up_given given = viommu_set_up(shown_settings(), endpoints, 2, owners, 2, t->words, t->count);
+    struct viommu_set_up_given given = viommu_set_up(shown_settings(), endpoints, 2, owners, 2, no_regions,
+                                                     REGION_WORDS(2), t->words, t->count);
     print_number(what, given.number);
     print_sums(&given.state, t->words, t->count);
     check_set_up(mapped, &given, t);

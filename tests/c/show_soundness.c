@@ -17,7 +17,8 @@ static void make_sound(struct driver *d)
     EXPECT(reach(d, 8, 0x5000, VIOMMU_READ).number == VIOMMU_UNMAPPED);
 }
 
-/* The sound device, then the clauses in the order of the rules, then numbers that are wrong in their high bits alone. */
+/* The sound device, then the clauses in the order of the rules, numbers that are wrong in their high bits alone, and reserved
+   regions. */
 int main(void)
 {
     static struct driver sound;
@@ -28,5 +29,6 @@ int main(void)
     show_places(&sound);
     show_faults(&sound);
     show_wide(&sound);
+    show_regions(&sound);
     return 0;
 }

@@ -13,5 +13,6 @@ void show_records(const struct driver *sound);
 void show_places(const struct driver *sound);
 void show_faults(const struct driver *sound);
 void show_wide(const struct driver *sound);
+void show_regions(const struct driver *sound);
 
 #endif

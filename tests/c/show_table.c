@@ -4,6 +4,7 @@
 #include <string.h>
 
 #include "expect.h"
+#include "regions.h"
 #include "requests.h"
 #include "shown.h"
 
@@ -53,8 +54,8 @@ static void set_up(void)
         table[i] = 0xffff;
     wanted = (struct viommu_state){
         .settings = shown_settings(), .listed = 3, .endpoints = {8, 9, 10}, .owners = {0, 1, 0}};
-    struct viommu_set_up_given given =
-        viommu_set_up(shown_settings(), endpoints, 3, owners, 3, table, VIOMMU_TABLE_WORDS);
+    struct viommu_set_up_given given = viommu_set_up(shown_settings(), endpoints, 3, owners, 3, no_regions,
+                                                     REGION_WORDS(3), table, VIOMMU_TABLE_WORDS);
     keep(&given.state);
     printf("set up: %u\n", given.number);
     print_table();

@@ -2,6 +2,7 @@
 #include "shown.h"
 
 #include "expect.h"
+#include "regions.h"
 
 #include <string.h>
 
@@ -23,7 +24,7 @@ struct viommu_state shown_start(uint64_t table[VIOMMU_TABLE_WORDS])
     static const uint32_t endpoints[] = {8, 9};
     static const uint8_t owners[] = {0, 1};
     struct viommu_set_up_given given =
-        viommu_set_up(shown_settings(), endpoints, 2, owners, 2, table, VIOMMU_TABLE_WORDS);
+        viommu_set_up(shown_settings(), endpoints, 2, owners, 2, no_regions, REGION_WORDS(2), table, VIOMMU_TABLE_WORDS);
     EXPECT(given.number == 0);
     return given.state;
 }
@@ -47,6 +48,7 @@ uint64_t sum_state(const struct viommu_state *s)
     SUM(total, s->owners)
     SUM(total, s->attached)
     SUM(total, s->domains)
+    SUM(total, s->regions)
     SUM(total, s->logged)
     SUM(total, s->lost)
     SUM(total, s->reasons)
@@ -81,10 +83,10 @@ int same_state(const struct viommu_state *a, const struct viommu_state *b)
 {
     return same_settings(&a->settings, &b->settings) && a->listed == b->listed &&
            SAME(a->endpoints, b->endpoints) && SAME(a->owners, b->owners) &&
-           SAME(a->attached, b->attached) && SAME(a->domains, b->domains) && a->live == b->live &&
-           SAME(a->logged, b->logged) && SAME(a->lost, b->lost) && SAME(a->reasons, b->reasons) &&
-           SAME(a->flags, b->flags) && SAME(a->sources, b->sources) &&
-           SAME(a->addresses, b->addresses);
+           SAME(a->attached, b->attached) && SAME(a->domains, b->domains) &&
+           SAME(a->regions, b->regions) && a->live == b->live && SAME(a->logged, b->logged) &&
+           SAME(a->lost, b->lost) && SAME(a->reasons, b->reasons) && SAME(a->flags, b->flags) &&
+           SAME(a->sources, b->sources) && SAME(a->addresses, b->addresses);
 }
 
 int zero_state(const struct viommu_state *s)

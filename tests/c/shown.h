@@ -7,7 +7,7 @@
 /* Two guests with a share of 4 records and a window of 256 MiB each, pages of 4 KiB, domains 1 to 15. */
 struct viommu_settings shown_settings(void);
 
-/* A state set up with these, endpoint 8 of guest 0 and endpoint 9 of guest 1; the table is zeroed. */
+/* A state set up with these, endpoint 8 of guest 0 and endpoint 9 of guest 1, without regions; the table is zeroed. */
 struct viommu_state shown_start(uint64_t table[VIOMMU_TABLE_WORDS]);
 
 /* The sum, modulo 2^64, of all numbers of a state, and of words. */

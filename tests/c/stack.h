@@ -5,10 +5,12 @@
 #include "driver.h"
 
 #define PAGE 0x1000
+#define RESERVED_PAGE 0xf0000 /* the first page that is reserved, for every endpoint */
 #define OWN 64 /* records of each guest, half of them in domain 1 and half in domain 2 */
 
 /* The devices that are called. Of the full ones each guest holds its share, all table places are in use, and endpoint 131
-   is unattached; else endpoint 100 + g is guest g's only one in domain 1, and all others are in domain 2. */
+   is unattached; else endpoint 100 + g is guest g's only one in domain 1, and all others are in domain 2. Every endpoint has
+   four reserved regions, all past the records but for one of 131, which meets the first record of domain 2. */
 struct stack_devices {
     struct driver fresh;   /* just set up */
     struct driver full;    /* table and logs full, one fault lost of each guest */

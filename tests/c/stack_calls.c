@@ -16,16 +16,18 @@ static struct viommu_endpoint endpoint;
 static struct readable asked;
 static uint64_t address;
 static uint8_t kind;
-static size_t bytes, owners;
+static size_t bytes, owners, region_words;
 static uint8_t wanted_number, wanted_status;
 static size_t wanted_count;
 
 static void request(void)
 {
-    uint8_t writable[4] = {NONE};
+    static uint8_t writable[VIOMMU_PROBE_BYTES];
+    size_t status = bytes == VIOMMU_PROBE_BYTES ? VIOMMU_PROPERTIES_BYTES : 0;
+    writable[status] = NONE;
     struct viommu_request_given given =
         viommu_request(device.state, device.table, words, guest, asked.bytes, asked.count, writable, bytes);
-    EXPECT(given.number == wanted_number && writable[0] == wanted_status);
+    EXPECT(given.number == wanted_number && writable[status] == wanted_status);
 }
 
 static void access(void)
@@ -46,11 +48,12 @@ static void fetch(void)
     EXPECT(given.number == wanted_number && given.count == wanted_count);
 }
 
-/* Sets up again, with the settings and the endpoints that the device's state has. */
+/* Sets up again, with the settings, the endpoints and the regions that the device's state has. */
 static void set_up(void)
 {
-    struct viommu_set_up_given given = viommu_set_up(device.state.settings, device.state.endpoints, device.state.listed,
-                                                     device.state.owners, owners, device.table, words);
+    struct viommu_set_up_given given =
+        viommu_set_up(device.state.settings, device.state.endpoints, device.state.listed, device.state.owners, owners,
+                      device.state.regions, region_words, device.table, words);
     EXPECT(given.number == wanted_number);
 }
 
@@ -77,7 +80,8 @@ static void writable_length(void)
 /* A request of guest g's that is worked, and its status. */
 static void worked(const char *name, const struct driver *d, uint8_t g, struct readable r, uint8_t status)
 {
-    device = *d, guest.number = g, asked = r, bytes = 4, wanted_number = VIOMMU_DONE, wanted_status = status;
+    device = *d, guest.number = g, asked = r, wanted_number = VIOMMU_DONE, wanted_status = status;
+    bytes = r.bytes[0] == VIOMMU_PROBE ? VIOMMU_PROBE_BYTES : VIOMMU_STATUS_BYTES;
     measure(name, request);
 }
 
@@ -125,6 +129,7 @@ static void attachments(void)
     worked("ATTACH of no endpoint", &on->full, 0, attach(1, 99, 0), VIOMMU_STATUS_NOENT);
     worked("ATTACH of another's", &on->full, 0, attach(1, 101, 0), VIOMMU_STATUS_NOENT);
     worked("ATTACH out of range", &on->full, 0, attach(16, 100, 0), VIOMMU_STATUS_RANGE);
+    worked("ATTACH to records on a region", &on->full, 3, attach(2, 131, 0), VIOMMU_STATUS_UNSUPP);
     worked("DETACH of the last", &on->full, 0, detach(1, 100, 0), VIOMMU_STATUS_OK);
     worked("DETACH of the last, last guest", &on->full, 3, detach(1, 103, 0), VIOMMU_STATUS_OK);
     worked("DETACH of one of seven", &on->full, 0, detach(2, 104, 0), VIOMMU_STATUS_OK);
@@ -152,6 +157,8 @@ static void mappings(void)
     worked("MAP past the input range", &on->room, 0, map_of(1, 1 << 20, start, 3), VIOMMU_STATUS_RANGE);
     worked("MAP out of the window", &on->room, 0, map_of(1, 1, start - 1, 3), VIOMMU_STATUS_FAULT);
     worked("MAP that overlaps", &on->room, 0, map_of(1, 100, start, 3), VIOMMU_STATUS_INVAL);
+    worked("MAP on a region", &on->room, 0, map_of(RESERVED_PAGE, RESERVED_PAGE, start, 3), VIOMMU_STATUS_INVAL);
+    worked("MAP on the last region", &on->room, 0, map_of(RESERVED_PAGE + 6, RESERVED_PAGE + 6, start, 3), VIOMMU_STATUS_INVAL);
     worked("MAP past the share", &on->full, 0, map_of(1, 1, start, 3), VIOMMU_STATUS_NOMEM);
     worked("UNMAP of all", &on->full, 0, unmap(1, 0, UINT64_MAX, 0), VIOMMU_STATUS_OK);
     worked("UNMAP of one", &on->full, 0, unmap(1, 4 * PAGE, 5 * PAGE - 1, 0), VIOMMU_STATUS_OK);
@@ -160,6 +167,15 @@ static void mappings(void)
     worked("UNMAP with reserved bits", &on->full, 0, unmap(1, 0, 1, 1), VIOMMU_STATUS_INVAL);
     worked("UNMAP of less than nothing", &on->full, 0, unmap(1, 1, 0, 0), VIOMMU_STATUS_RANGE);
     worked("UNMAP that cuts", &on->full, 0, unmap(1, 0, 4 * PAGE, 0), VIOMMU_STATUS_RANGE);
+}
+
+static void probes(void)
+{
+    worked("PROBE", &on->full, 0, probe(100), VIOMMU_STATUS_OK);
+    worked("PROBE of the last endpoint", &on->full, 3, probe(131), VIOMMU_STATUS_OK);
+    worked("PROBE, just set up", &on->fresh, 0, probe(100), VIOMMU_STATUS_OK);
+    worked("PROBE of no endpoint", &on->full, 0, probe(99), VIOMMU_STATUS_NOENT);
+    worked("PROBE of another's", &on->full, 0, probe(101), VIOMMU_STATUS_NOENT);
 }
 
 /* Accesses: page 2 is mapped in domain 2 alone, page 4 in domain 1 alone, and both for reads. */
@@ -220,17 +236,19 @@ static void refusals(void)
 static void refused_requests(void)
 {
     struct readable r = attach(2, 100, 0), tiny = r, cut = r, unknown = r;
-    tiny.count = 3, cut.count = 19, unknown.bytes[0] = 5;
+    tiny.count = 3, cut.count = 19, unknown.bytes[0] = 6;
     refused("a request below 4 bytes", &on->full, 0, tiny, 4, VIOMMU_WRONG_LENGTH);
-    refused("a request of type 5", &on->full, 0, unknown, 4, VIOMMU_UNKNOWN_TYPE);
+    refused("a request of type 6", &on->full, 0, unknown, 4, VIOMMU_UNKNOWN_TYPE);
     refused("a request cut short", &on->full, 0, cut, 4, VIOMMU_WRONG_LENGTH);
     refused("a request without room for its status", &on->full, 0, r, 0, VIOMMU_WRONG_LENGTH);
+    refused("a PROBE without room for properties", &on->full, 0, probe(100), 4, VIOMMU_WRONG_LENGTH);
+    refused("a PROBE, unsound", &on->unsound, 0, probe(100), VIOMMU_PROBE_BYTES, VIOMMU_UNSOUND);
 }
 
 /* Set-up on a full table, with settings and lists as the device has them but for one thing. */
 static void set_up_again(const char *name, size_t count, uint8_t number)
 {
-    owners = count, wanted_number = number;
+    owners = count, region_words = VIOMMU_ENDPOINT_REGION_WORDS * device.state.listed, wanted_number = number;
     measure(name, set_up);
 }
 
@@ -249,6 +267,13 @@ static void set_ups(void)
     words = VIOMMU_TABLE_WORDS - 1;
     set_up_again("a set-up, table cut", VIOMMU_ENDPOINTS, VIOMMU_UNSOUND);
     words = VIOMMU_TABLE_WORDS;
+    device = on->full, device.state.regions[VIOMMU_REGION_PLACES - 1] = 0;
+    set_up_again("a set-up with a region upside down", VIOMMU_ENDPOINTS, VIOMMU_BAD_CONFIGURATION);
+    device = on->full, device.state.regions[0] = VIOMMU_REGIONS + 1;
+    set_up_again("a set-up with five regions", VIOMMU_ENDPOINTS, VIOMMU_BAD_CONFIGURATION);
+    for (size_t i = 0; i < VIOMMU_REGION_PLACES; i++)
+        device.state.regions[i] = 0;
+    set_up_again("a set-up without regions", VIOMMU_ENDPOINTS, VIOMMU_DONE);
 }
 
 static void queries(void)
@@ -258,9 +283,11 @@ static void queries(void)
     asked_for("faults lost, last guest", lost, 3, 1);
     asked_for("faults lost, no guest", lost, VIOMMU_GUESTS, 0);
     asked_for("the length of MAP's readable part", readable_length, VIOMMU_MAP, 36);
-    asked_for("the length of type 5's readable part", readable_length, 5, 0);
+    asked_for("the length of PROBE's readable part", readable_length, VIOMMU_PROBE, 72);
+    asked_for("the length of type 6's readable part", readable_length, 6, 0);
     asked_for("the length of MAP's writable part", writable_length, VIOMMU_MAP, 4);
-    asked_for("the length of type 5's writable part", writable_length, 5, 0);
+    asked_for("the length of PROBE's writable part", writable_length, VIOMMU_PROBE, 132);
+    asked_for("the length of type 6's writable part", writable_length, 6, 0);
 }
 
 void every_call(const struct stack_devices *devices, void (*measured)(const char *name, void (*call)(void)))
@@ -269,6 +296,7 @@ void every_call(const struct stack_devices *devices, void (*measured)(const char
     measure = measured;
     attachments();
     mappings();
+    probes();
     accesses();
     resets();
     fetches();

@@ -18,14 +18,27 @@ static struct viommu_settings settings(void)
     return s;
 }
 
+/* Every other page from the first reserved one on, the last of them MSI; endpoint 131 has page 2 for the first. */
+static struct viommu_regions regions(size_t place)
+{
+    struct viommu_regions q = {.count = VIOMMU_REGIONS};
+    for (uint64_t j = 0; j < VIOMMU_REGIONS; j++) {
+        uint64_t page = j == 0 && place == VIOMMU_ENDPOINTS - 1 ? 2 : RESERVED_PAGE + 2 * j;
+        q.region[j] = (struct viommu_region){j == 3, PAGE * page, PAGE * page + PAGE - 1};
+    }
+    return q;
+}
+
 static void set_up(struct driver *d)
 {
     uint32_t endpoints[VIOMMU_ENDPOINTS];
     uint8_t owners[VIOMMU_ENDPOINTS];
+    struct viommu_regions reserved[VIOMMU_ENDPOINTS];
     for (size_t i = 0; i < VIOMMU_ENDPOINTS; i++)
-        endpoints[i] = 100 + (uint32_t)i, owners[i] = i % VIOMMU_GUESTS;
-    struct viommu_set_up_given given = viommu_set_up(settings(), endpoints, VIOMMU_ENDPOINTS, owners, VIOMMU_ENDPOINTS,
-                                                     d->table, VIOMMU_TABLE_WORDS);
+        endpoints[i] = 100 + (uint32_t)i, owners[i] = i % VIOMMU_GUESTS, reserved[i] = regions(i);
+    struct viommu_set_up_given given =
+        viommu_set_up(settings(), endpoints, VIOMMU_ENDPOINTS, owners, VIOMMU_ENDPOINTS, &reserved[0].count,
+                      VIOMMU_REGION_PLACES, d->table, VIOMMU_TABLE_WORDS);
     EXPECT(given.number == VIOMMU_DONE);
     d->state = given.state;
 }

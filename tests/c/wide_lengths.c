@@ -1,12 +1,13 @@
-/* Counts past 2^32, whose low halves are right: a table of 2^32 + 1,280 words gets 2, lists of 2^32 + 2 entries get 5, and a
-   request's part that is 2^32 bytes too long gets 4; a fetch's buffer of 2^32 bytes has room for all faults. All that is lent is
-   there to be read, and its first pages to be written. */
+/* Counts past 2^32, whose low halves are right: a table of 2^32 + 1,280 words gets 2, lists of 2^32 + 2 entries or of 2^32 words
+   of regions too many get 5, and a request's part that is 2^32 bytes too long gets 4; a fetch's buffer of 2^32 bytes has room for
+   all faults. All that is lent is there to be read, and its first pages to be written. */
 #define _DEFAULT_SOURCE
 #include <string.h>
 #include <sys/mman.h>
 
 #include "driver.h"
 #include "expect.h"
+#include "regions.h"
 #include "shown.h"
 
 #define WIDE ((size_t)1 << 32)
@@ -15,6 +16,7 @@
 static struct driver device;
 static uint64_t *table;     /* WIDE words and a table's */
 static uint32_t *endpoints; /* WIDE entries and two */
+static uint64_t *regions;   /* WIDE words and those of two endpoints */
 static uint8_t *owners, *readable, *writable;
 
 /* So many bytes, all zero. */
@@ -32,6 +34,7 @@ static void make(void)
     table = room(8 * (WIDE + VIOMMU_TABLE_WORDS));
     endpoints = room(4 * (WIDE + 2));
     owners = room(WIDE + 2);
+    regions = room(8 * (WIDE + REGION_WORDS(2)));
     readable = room(WIDE + READABLE_ROOM);
     writable = room(WIDE + VIOMMU_FAULTS * VIOMMU_FAULT_BYTES);
     device.state = shown_start(device.table);
@@ -70,10 +73,10 @@ static void check_table(void)
 }
 
 /* A set-up that gets this number, and a zero state. */
-static void check_set_up(size_t endpoint_count, size_t owner_count, size_t words, uint8_t wanted)
+static void check_set_up(size_t endpoint_count, size_t owner_count, size_t region_words, size_t words, uint8_t wanted)
 {
-    struct viommu_set_up_given given =
-        viommu_set_up(shown_settings(), endpoints, endpoint_count, owners, owner_count, table, words);
+    struct viommu_set_up_given given = viommu_set_up(shown_settings(), endpoints, endpoint_count, owners, owner_count,
+                                                     regions, region_words, table, words);
     EXPECT(given.number == wanted && zero_state(&given.state));
     EXPECT(memcmp(table, device.table, sizeof device.table) == 0);
 }
@@ -82,10 +85,12 @@ static void check_set_ups(void)
 {
     endpoints[0] = 8, endpoints[1] = 9;
     owners[0] = 0, owners[1] = 1;
-    check_set_up(2, 2, WIDE + VIOMMU_TABLE_WORDS, VIOMMU_UNSOUND);
-    check_set_up(WIDE + 2, WIDE + 2, VIOMMU_TABLE_WORDS, VIOMMU_BAD_CONFIGURATION);
-    check_set_up(WIDE + 2, 2, VIOMMU_TABLE_WORDS, VIOMMU_BAD_CONFIGURATION);
-    check_set_up(2, WIDE + 2, VIOMMU_TABLE_WORDS, VIOMMU_BAD_CONFIGURATION);
+    const size_t few = REGION_WORDS(2), right = VIOMMU_TABLE_WORDS;
+    check_set_up(2, 2, few, WIDE + VIOMMU_TABLE_WORDS, VIOMMU_UNSOUND);
+    check_set_up(WIDE + 2, WIDE + 2, few, right, VIOMMU_BAD_CONFIGURATION);
+    check_set_up(WIDE + 2, 2, few, right, VIOMMU_BAD_CONFIGURATION);
+    check_set_up(2, WIDE + 2, few, right, VIOMMU_BAD_CONFIGURATION);
+    check_set_up(2, 2, WIDE + few, right, VIOMMU_BAD_CONFIGURATION);
 }
 
 /* A request with parts of these lengths, of which one is too long. */
@@ -93,19 +98,21 @@ static void check_request(struct readable r, size_t readable_bytes, size_t writa
 {
     const struct viommu_guest guest = {0};
     memcpy(readable, r.bytes, r.count);
-    memset(writable, 0xee, 4);
+    memset(writable, 0xee, VIOMMU_PROBE_BYTES);
     struct viommu_request_given given = viommu_request(device.state, table, VIOMMU_TABLE_WORDS, guest, readable,
                                                        readable_bytes, writable, writable_bytes);
     EXPECT(given.number == VIOMMU_WRONG_LENGTH && given.used == 0);
-    for (size_t i = 0; i < 4; i++)
+    for (size_t i = 0; i < VIOMMU_PROBE_BYTES; i++)
         EXPECT(writable[i] == 0xee);
     check_left(&given.state);
 }
 
+/* The type's lengths, with a readable part that is too long, then with such a writable one. */
 static void check_parts(struct readable r)
 {
-    check_request(r, WIDE + r.count, 4);
-    check_request(r, r.count, WIDE + 4);
+    size_t needed = r.bytes[0] == VIOMMU_PROBE ? VIOMMU_PROBE_BYTES : VIOMMU_STATUS_BYTES;
+    check_request(r, WIDE + r.count, needed);
+    check_request(r, r.count, WIDE + needed);
 }
 
 /* A buffer whose length has a low half of 0. */
@@ -126,6 +133,7 @@ int main(void)
     check_parts(detach(1, 8, 0));
     check_parts(map(1, 0x2000, 0x2fff, 0x80002000, 1));
     check_parts(unmap(1, 0, UINT64_MAX, 0));
+    check_parts(probe(8));
     check_fetch();
     puts("wide lengths: tables, lists, a request's parts and a fetch's buffer of 2^32 elements and more");
     return 0;

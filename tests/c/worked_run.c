@@ -21,7 +21,10 @@ static void start(void)
     };
     static const uint32_t endpoints[] = {8, 9};
     static const uint8_t owners[] = {0, 1};
-    struct viommu_set_up_given given = viommu_set_up(settings, endpoints, 2, owners, 2, table, VIOMMU_TABLE_WORDS);
+    static const struct viommu_regions none[2]; /* neither endpoint has a reserved region */
+    struct viommu_set_up_given given =
+        viommu_set_up(settings, endpoints, 2, owners, 2, &none[0].count, 2 * VIOMMU_ENDPOINT_REGION_WORDS,
+                      table, VIOMMU_TABLE_WORDS);
     state = given.state;
     printf("S %u\n", given.number);
 }

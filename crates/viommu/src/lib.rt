@@ -55,11 +55,12 @@ pub extern "C" fn viommu_set_up(
     settings: Settings,
     endpoints: &[u32],
     owners: &[u8],
+    regions: &[u64],
     t: &mut [u64],
 ) -> SetUpGiven
-    ensures { λ r. ⌜ (r .number ≡ number (rules.setUp (configured settings (now (endpoints .entry)) (now (owners .entry))) (now (t .entry)) .answer)) × (device (r .state) (now (t .exit)) ≡ rules.setUp (configured settings (now (endpoints .entry)) (now (owners .entry))) (now (t .entry)) .device) ⌝ }
+    ensures { λ r. ⌜ (r .number ≡ number (rules.setUp (configured settings (now (endpoints .entry)) (now (owners .entry)) (now (regions .entry))) (now (t .entry)) .answer)) × (device (r .state) (now (t .exit)) ≡ rules.setUp (configured settings (now (endpoints .entry)) (now (owners .entry)) (now (regions .entry))) (now (t .entry)) .device) ⌝ }
 {
-    let given = call_setup::set_up(settings, endpoints, owners, t);
+    let given = call_setup::set_up(settings, endpoints, owners, regions, t);
     let answer = given.answer;
     let next = given.state;
     let values = call_answers::values_of(answer);
