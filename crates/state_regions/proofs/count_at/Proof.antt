@@ -8,7 +8,7 @@ use Rattle.state_regions.proofs.count_at.Statement.{statement}
 use Rattle.state_regions.proofs.count_at.Tie as tie
 
 returns : tie.Need-returns
-returns c = let a = c .before .before .args in count-past (a .regions .now) (a .i) (c .if1 .taken)
+returns c = let a = c .before .before .args in count-past (a .regions .now) (a .i) (omega arith)
 
 returns-2 : tie.Need-returns-2
 returns-2 c =
