@@ -11,7 +11,7 @@ use borrow.Author.Tests.{leb-true, leb-false, le-leb, lt-ltb, le-ltb, ne-eqb}
 use Rattle.laws.specs.Bytes.{leField}
 use Rattle.laws.proofs.Tests.{either-way}
 use Rattle.journal_records.specs.declared.Item.the-variants.{Cut, Wrong}
-use Rattle.journal_records.specs.Items.{GUEST, ENDPOINT, START, REQUEST20, REQUEST28, REQUEST36, ACCESS, RESET, FETCH, longestBody, bodyLength, kindOf, sizeOf, itemOf, front}
+use Rattle.journal_records.specs.Items.{GUEST, ENDPOINT, START, REGION, REQUEST20, REQUEST28, REQUEST36, REQUEST72, ACCESS, RESET, FETCH, longestBody, bodyLength, kindOf, sizeOf, itemOf, front}
 
 -- a field that is all there
 pub field-there :
@@ -30,12 +30,14 @@ body-most k =
     either-way Few (eqb k GUEST) (λ _. omega arith) (λ _.
     either-way Few (eqb k ENDPOINT) (λ _. omega arith) (λ _.
     either-way Few (eqb k START) (λ _. omega arith) (λ _.
+    either-way Few (eqb k REGION) (λ _. omega arith) (λ _.
     either-way Few (eqb k REQUEST20) (λ _. omega arith) (λ _.
     either-way Few (eqb k REQUEST28) (λ _. omega arith) (λ _.
     either-way Few (eqb k REQUEST36) (λ _. omega arith) (λ _.
+    either-way Few (eqb k REQUEST72) (λ _. omega arith) (λ _.
     either-way Few (eqb k ACCESS) (λ _. omega arith) (λ _.
     either-way Few (eqb k RESET) (λ _. omega arith) (λ _.
-    either-way Few (eqb k FETCH) (λ _. omega arith) (λ _. omega arith)))))))))
+    either-way Few (eqb k FETCH) (λ _. omega arith) (λ _. omega arith)))))))))))
 
 -- what stands at the front, by how many bytes there are
 module _ (s : List ℕ) where
