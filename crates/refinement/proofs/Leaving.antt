@@ -116,7 +116,7 @@ module _ (c : Config) (k : kept c ≡ c) (w : World) (h : Whole c w) (g : Guest)
   size : length (w .attachments) ≡ length (c .endpoints)
   size = h .attachments ∙ owners-size
 
-  place-listed : indexOf (e .0) (c .endpoints) < length (c .endpoints)
+  pub place-listed : indexOf (e .0) (c .endpoints) < length (c .endpoints)
   place-listed = go (ltb (indexOf (e .0) (c .endpoints)) (length (c .endpoints))) refl (sym (owner-at e (c .endpoints) (c .owners) owners-size) ∙ owner)
     where
       go : (b : Bool) → ltb (indexOf (e .0) (c .endpoints)) (length (c .endpoints)) ≡ b → cond b (some (guest (getD (c .owners) (indexOf (e .0) (c .endpoints)) 0))) none ≡ some g → indexOf (e .0) (c .endpoints) < length (c .endpoints)

@@ -1,5 +1,6 @@
 pub mod Places
 pub mod Written
+pub mod Reserved
 pub mod Logs
 pub mod Leaving
 pub mod Statuses

@@ -37,7 +37,7 @@ owner-at e (k ∷ es) (o ∷ os) l = go (eqb k (e .0)) (owner-at e es os (omega 
     go false i = i ∙ rw more
 
 -- the owner's number, where the head is the endpoint
-head-owner : (o : ℕ) (g : Guest) → some (guest o) ≡ some g → eqb o (g .0) ≡ true
+pub head-owner : (o : ℕ) (g : Guest) → some (guest o) ≡ some g → eqb o (g .0) ≡ true
 head-owner o g h = eq-eqb o (g .0) (let z : guest o ≡ g = cc in ap (λ y. y .0) z)
 
 -- an endpoint of guest g: its attachment among g's is the one at its place

@@ -8,23 +8,26 @@ use native.Mathlib.Omega.{arith}
 use lib.Dec.{leb, ltb, eqb}
 use lib.ListN.{length, getD, set, replicate}
 use borrow.Author.Tests.{ltb-true, leb-true, eqb-true, eq-eqb, le-leb, not-true}
-use Rattle.laws.specs.Lists.{all?, any?, keep, pairwise, weaveBy}
-use Rattle.laws.proofs.Tests.{both-left, both-right, true-false, same-test, Clear}
+use Rattle.laws.specs.Lists.{all?, any?, keep, pairwise, tab, pad, weaveBy}
+use Rattle.laws.proofs.Tests.{both-left, both-right, true-false, same-test, opened, Clear}
 use Rattle.laws.proofs.Filters.{keep-same}
-use Rattle.laws.proofs.Tables.{getD-tab}
+use Rattle.laws.proofs.Tables.{length-tab, getD-tab}
 use Rattle.rules.specs.declared.Guest.{Guest}
 use Rattle.rules.specs.declared.Endpoint.{Endpoint}
 use Rattle.rules.specs.declared.Domain.{Domain}
+use Rattle.rules.specs.declared.DomainRange.{DomainRange}
 use Rattle.rules.specs.declared.Mapping.{Mapping}
+use Rattle.rules.specs.declared.Region.{Region}
 use Rattle.rules.specs.declared.Settings.{Settings}
 use Rattle.rules.specs.declared.State.{State}
 use Rattle.rules.specs.declared.Fault.{Fault}
-use Rattle.rules.specs.Sizes.{domainSpan, maxEndpoints, maxRecords, topAddress}
-use Rattle.rules.specs.Configuration.{Config, share}
+use Rattle.rules.specs.Sizes.{domainSpan, maxEndpoints, maxRecords, propertiesSize, topAddress}
+use Rattle.rules.specs.Configuration.{Config, MSI, share, regionsAt, regionTests}
 use Rattle.rules.specs.Table.{keyOf, guestOf, overlap, insertMapping, records}
 use Rattle.rules.specs.State.{Attachment, Log, World, noLog, configOf, read, flagOf, numberOf, stateOf, write}
 use Rattle.rules.specs.Guests.{own, part, replace, recordsOf, withRecordsOf, withRecords, withLog}
-use Rattle.rules.specs.Handlers.{outside, isIn, domainExists, listed, attachmentOf, ofKey, without, leave, enter, moveFrom, attached, attachSteps, handleAttach, detachSteps, handleDetach, formSteps, mapSteps, handleMap, inside, straddles, unmapSteps, handleUnmap, statusOf, attachChain, detachChain, mapChain, unmapChain}
+use Rattle.rules.specs.Handlers.{outside, isIn, domainExists, listed, attachmentOf, ofKey, regionsOf, regionsIn, onRegion, without, leave, enter, moveFrom, attached, attachSteps, handleAttach, detachSteps, handleDetach, formSteps, mapSteps, handleMap, inside, straddles, unmapSteps, handleUnmap, probeSteps, propertiesOf, probed, statusOf, attachChain, detachChain, mapChain, unmapChain}
+use Rattle.rules.specs.Requests.{OK, NOENT}
 use Rattle.rules.specs.Access.{afterReset, logged, fetchedFrom}
 use Rattle.rules.specs.Sound.{guest, inRange}
 use Rattle.rules.specs.Device.{ownerOf, is}
@@ -42,14 +45,18 @@ use Rattle.table_remove.specs.Removed.{within}
 use Rattle.state_log.specs.Changes.{logFault}
 use Rattle.state_log.specs.Dropped.{dropFaults}
 use Rattle.state_reset.specs.Changes.{guestCleared}
+use Rattle.wire_properties.specs.Properties.{propertiesPut}
+use Rattle.state_regions.specs.Held.{heldRegions}
+use Rattle.table_reserved.specs.Reserved.{regionsMet}
 use Rattle.state_endpoints.specs.Search.{indexOf}
-use Rattle.refinement.specs.Flat.{device, withStatus, endpointIndex, ownedAt, isAttached, liveRecords, removed, inserted, settled, attachStatus, detachStatus, mapStatus, mapCounted, unmapStatus, resetGuest}
+use Rattle.refinement.specs.Flat.{device, withStatus, endpointIndex, ownedAt, isAttached, liveRecords, removed, inserted, settled, isInDomain, barredFrom, attachStatus, detachStatus, mapStatus, mapCounted, unmapStatus, probeStatus, probeBytes, resetGuest}
 use Rattle.refinement.specs.Flat as flat
 use Rattle.rules.proofs.PutBack.{with-kept, with-inserted, any-of}
 use Rattle.rules.proofs.Unchanged.{attachments-same, records-same, replace-same}
 use Rattle.refinement.proofs.Places.{owner-at, listed-owned}
 use Rattle.refinement.proofs.Written.{withRecs, withLogs, exists-written, removed-written, inserted-written}
-use Rattle.refinement.proofs.Leaving.{keep-agree, ends, replace-records, left-written, entered-written, moved-on, attachment-here, flag-here, number-here, in-domain, of-key-mine}
+use Rattle.refinement.proofs.Reserved.{regions-of-at, held-here, on-regions, regions-met, properties-put}
+use Rattle.refinement.proofs.Leaving.{place-listed, keep-agree, ends, replace-records, left-written, entered-written, moved-on, attachment-here, flag-here, number-here, in-domain, of-key-mine}
 use Rattle.refinement.proofs.Logs.{logged-written, dropped-written, cleared-written}
 use Rattle.refinement.proofs.Statuses.{settled-written}
 
@@ -102,6 +109,9 @@ module _ (c : Config) (k : kept c ≡ c) (w : World) (h : Whole c w) (g : Guest)
       go none i = true-false false i refl
       go (some y) i = ap (λ z. some z) (same-guest y g i)
 
+  live-is : liveRecords (write c w) ≡ w .records
+  live-is = unfold write stateOf in records-tableOf (w .records)
+
   same-world : write c w ≡ write c (replace c g (part c g w) w)
   same-world = ap (λ (v : World). write c v) (sym (replace-same c w h g))
 
@@ -132,19 +142,64 @@ module _ (c : Config) (k : kept c ≡ c) (w : World) (h : Whole c w) (g : Guest)
       go none x = unfold isIn moveFrom in entered-written c k w h g m e owner dom
       go (some was) x = unfold isIn moveFrom in other was x (eqb (was .0) (dom .0))
 
-  attach-status : (dom : Domain) (e : Endpoint) (z : ℕ) → attachStatus (write c w .state) g dom (endpointIndex (write c w .state) e) z ≡ statusOf (attachSteps (own c g) dom e z)
+  -- the regions of an endpoint of the guest's, as the words say them
+  regions-here : (e : Endpoint) → ownerOf e (c .endpoints) (c .owners) ≡ some g → heldRegions (write c w .state .regions) (indexOf (e .0) (c .endpoints)) ≡ regionsOf e (own c g .endpoints) (own c g .regions)
+  unfolding write own
+  regions-here e owner =
+      held-here c k good-c w (indexOf (e .0) (c .endpoints)) listed-here
+      ∙ sym (regions-of-at e g (c .endpoints) (c .owners) (tab (length (c .endpoints)) (regionsAt (c .regions))) (sym (good-c .sizes)) (length-tab (length (c .endpoints)) (regionsAt (c .regions))) owner
+      ∙ getD-tab (length (c .endpoints)) (regionsAt (c .regions)) (indexOf (e .0) (c .endpoints)) [] listed-here)
+    where
+      listed-here : indexOf (e .0) (c .endpoints) < length (c .endpoints)
+      listed-here = place-listed c k w h g m e owner
+
+  -- the records of the domain on the regions of an endpoint of the guest's
+  barred-is : (dom : Domain) (e : Endpoint) → listed e (own c g .endpoints) ≡ true → dom .0 < domainSpan
+      → barredFrom (write c w) g dom (endpointIndex (write c w .state) e) ≡ any? (λ r. ofKey (keyOf (own c g .guest) dom) r && onRegion (regionsOf e (own c g .endpoints) (own c g .regions)) r) (part c g w .records)
+  barred-is dom e l s =
+      ap (λ (i : ℕ). barredFrom (write c w) g dom i) (place-is e)
+      ∙ ap (λ (x : List Mapping). regionsMet (keyOf g dom) x (heldRegions (write c w .state .regions) (indexOf (e .0) (c .endpoints)))) live-is
+      ∙ ap (λ (qs : List Region). regionsMet (keyOf g dom) (w .records) qs) (regions-here e (owner-of e l))
+      ∙ regions-met (keyOf g dom) (w .records) (regionsOf e (own c g .endpoints) (own c g .regions))
+      ∙ sym (mine-alone (regionsOf e (own c g .endpoints) (own c g .regions)))
+    where
+      mine-alone : (qs : List Region) → any? (λ r. ofKey (keyOf (own c g .guest) dom) r && onRegion qs r) (part c g w .records) ≡ any? (λ r. ofKey (keyOf g dom) r && onRegion qs r) (w .records)
+      mine-alone qs = unfold own part in any-of g (λ r. ofKey (keyOf g dom) r && onRegion qs r) (w .records) (λ r x. of-key-mine g dom r s (both-left (ofKey (keyOf g dom) r) _ x))
+
+  attach-status : (dom : Domain) (e : Endpoint) (z : ℕ) → attachStatus (write c w) g dom (endpointIndex (write c w .state) e) z ≡ statusOf (attachSteps (own c g) (part c g w) dom e z)
   unfolding attachStatus
   attach-status dom e z =
-      ap (λ b. statusOf (attachChain (not (eqb z 0)) (not b) (outside (write c w .state .settings .domains .start) (write c w .state .settings .domains .end) (dom .0)))) (owned-is e)
-      ∙ ap (λ (s : Settings). statusOf (attachChain (not (eqb z 0)) (not (listed e (own c g .endpoints))) (outside (s .domains .start) (s .domains .end) (dom .0)))) settings-is
-      ∙ unfold own in refl
+      ap (λ b. statusOf (attachChain (not (eqb z 0)) (not b) (outside (write c w .state .settings .domains .start) (write c w .state .settings .domains .end) (dom .0)) flatly)) (owned-is e)
+      ∙ ap (λ (s : Settings). statusOf (attachChain (not (eqb z 0)) (not (listed e (own c g .endpoints))) (outside (s .domains .start) (s .domains .end) (dom .0)) flatly)) settings-is
+      ∙ ap (λ (s : DomainRange). statusOf (attachChain (not (eqb z 0)) (not (listed e (own c g .endpoints))) (outside (s .start) (s .end) (dom .0)) flatly)) ranges
+      ∙ go (listed e (own c g .endpoints)) refl (outside (own c g .domains .start) (own c g .domains .end) (dom .0)) refl
+    where
+      ranges : c .settings .domains ≡ own c g .domains
+      ranges = unfold own in refl
+
+      flatly : Bool
+      flatly = not (isInDomain (write c w .state) (endpointIndex (write c w .state) e) dom) && barredFrom (write c w) g dom (endpointIndex (write c w .state) e)
+
+      ruled : Bool
+      ruled = not (isIn dom (attachmentOf e (own c g .endpoints) (part c g w .attachments))) && any? (λ r. ofKey (keyOf (own c g .guest) dom) r && onRegion (regionsOf e (own c g .endpoints) (own c g .regions)) r) (part c g w .records)
+
+      same : listed e (own c g .endpoints) ≡ true → dom .0 < domainSpan → flatly ≡ ruled
+      same l s =
+          ap (λ (b : Bool). not b && barredFrom (write c w) g dom (endpointIndex (write c w .state) e)) (ap (λ (n : ℕ). isInDomain (write c w .state) n dom) (place-is e) ∙ in-domain c k w h g m e (owner-of e l) dom)
+          ∙ ap (λ (b : Bool). not (isIn dom (attachmentOf e (own c g .endpoints) (part c g w .attachments))) && b) (barred-is dom e l s)
+
+      go : (b : Bool) → listed e (own c g .endpoints) ≡ b → (o : Bool) → outside (own c g .domains .start) (own c g .domains .end) (dom .0) ≡ o
+          → statusOf (attachChain (not (eqb z 0)) (not b) o flatly) ≡ statusOf (attachChain (not (eqb z 0)) (not b) o ruled)
+      go true x true y = refl
+      go true x false y = ap (λ (b : Bool). statusOf (attachChain (not (eqb z 0)) false false b)) (same x (omega (arith, outside-high (own c g .domains .start) (own c g .domains .end) (dom .0) y, facts .narrow)))
+      go false x o y = refl
 
   pub attach-written : (dom : Domain) (e : Endpoint) (z : ℕ) → flat.handleAttach (write c w) g dom e z ≡ withStatus (handleAttach (own c g) (part c g w) dom e z .0) (write c (replace c g (handleAttach (own c g) (part c g w) dom e z .1) w))
   unfolding flat.handleAttach handleAttach
   attach-written dom e z =
       ap (λ n. settled n (write c w) (flat.moveTo (write c w) g (endpointIndex (write c w .state) e) dom)) (attach-status dom e z)
-      ∙ settled-written c w g (attachSteps (own c g) dom e z) (write c w) (flat.moveTo (write c w) g (endpointIndex (write c w .state) e) dom) (part c g w) (attached (own c g) e dom (part c g w)) refl same-world
-      (λ y. ap (λ n. flat.moveTo (write c w) g n dom) (place-is e) ∙ moved-written e dom (owner-of e (attaches (own c g) dom e z y .owned)))
+      ∙ settled-written c w g (attachSteps (own c g) (part c g w) dom e z) (write c w) (flat.moveTo (write c w) g (endpointIndex (write c w .state) e) dom) (part c g w) (attached (own c g) e dom (part c g w)) refl same-world
+      (λ y. ap (λ n. flat.moveTo (write c w) g n dom) (place-is e) ∙ moved-written e dom (owner-of e (attaches (own c g) (part c g w) dom e z y .owned)))
 
   -- DETACH
 
@@ -181,9 +236,6 @@ module _ (c : Config) (k : kept c ≡ c) (w : World) (h : Whole c w) (g : Guest)
 
   -- MAP AND UNMAP
 
-  live-is : liveRecords (write c w) ≡ w .records
-  live-is = unfold write stateOf in records-tableOf (w .records)
-
   exists-is : (dom : Domain) → flat.domainExists (write c w .state) g dom ≡ domainExists dom (part c g w .attachments)
   exists-is dom = unfold write part in exists-written c good-c w (h .attachments) g dom
 
@@ -196,26 +248,35 @@ module _ (c : Config) (k : kept c ≡ c) (w : World) (h : Whole c w) (g : Guest)
       same : (x : Mapping) → overlap r x ≡ true → guestOf x ≡ g .0
       same x y = unfold overlap in of-key-mine g dom x s (unfold ofKey in eq-eqb (x .key) (keyOf g dom) (sym (eqb-true (r .key) (x .key) (both-left (eqb (r .key) (x .key)) _ y)) ∙ e))
 
+  regions-is : (dom : Domain) (r : Mapping) → flat.onRegions (write c w .state) g dom r ≡ onRegion (regionsIn dom (part c g w .attachments) (own c g .regions)) r
+  unfolding write own part
+  regions-is dom r = on-regions c k good-c w (h .attachments) g dom r
+
   held-is : leb (share (write c w .state .settings) (g .0)) (length (recordsOf g (liveRecords (write c w)))) ≡ leb (own c g .share) (length (part c g w .records))
   held-is = ap (λ (s : Settings). leb (share s (g .0)) (length (recordsOf g (liveRecords (write c w))))) settings-is ∙ ap (λ (l : List Mapping). leb (share (c .settings) (g .0)) (length (recordsOf g l))) live-is ∙ unfold own part in refl
 
   map-status : (dom : Domain) (r : Mapping) → r .key ≡ keyOf g dom → mapStatus (write c w) g dom r ≡ statusOf (mapSteps (own c g) (part c g w) dom r)
   unfolding mapStatus
   map-status dom r e =
-      ap (λ (x : Config). statusOf (mapChain (not (flat.domainExists (write c w .state) g dom)) (formSteps (own x g) r) meets full)) config-is
-      ∙ ap (λ b. statusOf (mapChain (not b) (formSteps (own c g) r) meets full)) (exists-is dom)
+      ap (λ (x : Config). statusOf (mapChain (not (flat.domainExists (write c w .state) g dom)) (formSteps (own x g) r) meets barred full)) config-is
+      ∙ ap (λ b. statusOf (mapChain (not b) (formSteps (own c g) r) meets barred full)) (exists-is dom)
       ∙ go (domainExists dom (part c g w .attachments)) refl
     where
       meets : Bool
       meets = any? (overlap r) (liveRecords (write c w))
 
+      barred : Bool
+      barred = flat.onRegions (write c w .state) g dom r
+
       full : Bool
       full = leb (share (write c w .state .settings) (g .0)) (length (recordsOf g (liveRecords (write c w))))
 
-      go : (b : Bool) → domainExists dom (part c g w .attachments) ≡ b → statusOf (mapChain (not b) (formSteps (own c g) r) meets full) ≡ statusOf (mapChain (not b) (formSteps (own c g) r) (any? (overlap r) (part c g w .records)) (leb (own c g .share) (length (part c g w .records))))
+      go : (b : Bool) → domainExists dom (part c g w .attachments) ≡ b → statusOf (mapChain (not b) (formSteps (own c g) r) meets barred full)
+          ≡ statusOf (mapChain (not b) (formSteps (own c g) r) (any? (overlap r) (part c g w .records)) (onRegion (regionsIn dom (part c g w .attachments) (own c g .regions)) r) (leb (own c g .share) (length (part c g w .records))))
       go true x =
-          ap (λ o. statusOf (mapChain false (formSteps (own c g) r) o full)) (overlap-is dom r (existing-small dom x) e)
-          ∙ ap (λ u. statusOf (mapChain false (formSteps (own c g) r) (any? (overlap r) (part c g w .records)) u)) held-is
+          ap (λ o. statusOf (mapChain false (formSteps (own c g) r) o barred full)) (overlap-is dom r (existing-small dom x) e)
+          ∙ ap (λ q. statusOf (mapChain false (formSteps (own c g) r) (any? (overlap r) (part c g w .records)) q full)) (regions-is dom r)
+          ∙ ap (λ u. statusOf (mapChain false (formSteps (own c g) r) (any? (overlap r) (part c g w .records)) (onRegion (regionsIn dom (part c g w .attachments) (own c g .regions)) r) u)) held-is
       go false x = refl
 
   -- while the guest holds less than its share there is room
@@ -284,6 +345,40 @@ module _ (c : Config) (k : kept c ≡ c) (w : World) (h : Whole c w) (g : Guest)
       ∙ settled-written c w g (unmapSteps (own c g) (part c g w) dom a b z) (write c w) (removed (write c w) (keyOf g dom) (keyOf g dom) a b) (part c g w) (withRecords (without (inside (keyOf (own c g .guest) dom) a b) (part c g w .records)) (part c g w)) refl same-world
       (λ y. removed-written c w (fits c w h) (keyOf g dom) (keyOf g dom) a b
       ∙ sym (ap (λ (v : World). write c v) (replace-records c w h g (without (inside (keyOf (own c g .guest) dom) a b) (part c g w .records)) ∙ ap (λ (l : List Mapping). withRecs l w) (unmapped dom a b (existing-small dom (unmap-there (own c g) (part c g w) dom a b z y))))))
+
+  -- PROBE
+
+  pub probe-status : (e : Endpoint) → probeStatus (write c w .state) g (endpointIndex (write c w .state) e) ≡ statusOf (probeSteps (own c g) e)
+  probe-status e = ap (λ (b : Bool). cond b OK NOENT) (owned-is e) ∙ go (listed e (own c g .endpoints))
+    where
+      go : (b : Bool) → cond b OK NOENT ≡ statusOf ((not b, NOENT) ∷ [])
+      go true = refl
+      go false = refl
+
+  -- the regions of the guest's endpoints have the subtypes that set-up takes
+  subtypes : (e : Endpoint) → ownerOf e (c .endpoints) (c .owners) ≡ some g → all? (λ q. leb (q .subtype) MSI) (heldRegions (write c w .state .regions) (indexOf (e .0) (c .endpoints))) ≡ true
+  unfolding write
+  subtypes e owner =
+      rw (held-here c k good-c w (indexOf (e .0) (c .endpoints)) listed-here)
+      (opened (regionTests (regionsAt (c .regions) (indexOf (e .0) (c .endpoints)))) (good-c .regions (indexOf (e .0) (c .endpoints)) listed-here) .1 .0)
+    where
+      listed-here : indexOf (e .0) (c .endpoints) < length (c .endpoints)
+      listed-here = place-listed c k w h g m e owner
+
+  pub probe-bytes : (e : Endpoint) → probeBytes (write c w .state) g (endpointIndex (write c w .state) e) ≡ probed (own c g) e
+  unfolding probeBytes probed
+  probe-bytes e =
+      ap (λ (b : Bool). cond b (pad propertiesSize 0 (propertiesPut (heldRegions (write c w .state .regions) (endpointIndex (write c w .state) e)))) (replicate propertiesSize 0)) (owned-is e)
+      ∙ go (listed e (own c g .endpoints)) refl
+    where
+      go : (b : Bool) → listed e (own c g .endpoints) ≡ b → cond b (pad propertiesSize 0 (propertiesPut (heldRegions (write c w .state .regions) (endpointIndex (write c w .state) e)))) (replicate propertiesSize 0)
+          ≡ cond b (pad propertiesSize 0 (propertiesOf (regionsOf e (own c g .endpoints) (own c g .regions)))) (replicate propertiesSize 0)
+      go true x =
+          ap (λ (l : List ℕ). pad propertiesSize 0 l)
+          (ap (λ (i : ℕ). propertiesPut (heldRegions (write c w .state .regions) i)) (place-is e)
+          ∙ properties-put (heldRegions (write c w .state .regions) (indexOf (e .0) (c .endpoints))) (subtypes e (owner-of e x))
+          ∙ ap (λ (qs : List Region). propertiesOf qs) (regions-here e (owner-of e x)))
+      go false x = refl
 
   -- RESET
 

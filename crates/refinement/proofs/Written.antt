@@ -108,7 +108,7 @@ owned-from g q (o ∷ os) (a ∷ l) (suc i) m n h = go (eqb o g) (owned-from g q
 
 module _ (c : Config) (good-c : Good c) (w : World) (size : length (w .attachments) ≡ length (c .owners)) where
   -- what belongs at a place, as the arrays say it
-  belongs-at : (g : Guest) (dom : Domain) (i : ℕ) → i < maxEndpoints → belongs (stateOf c w .owners) (stateOf c w .attached) (stateOf c w .domains) g dom i ≡ (eqb (getD (c .owners) i 0) (g .0) && isIn dom (getD (w .attachments) i none))
+  pub belongs-at : (g : Guest) (dom : Domain) (i : ℕ) → i < maxEndpoints → belongs (stateOf c w .owners) (stateOf c w .attached) (stateOf c w .domains) g dom i ≡ (eqb (getD (c .owners) i 0) (g .0) && isIn dom (getD (w .attachments) i none))
   unfolding stateOf isIn
   belongs-at g dom i l =
       rw (getD-tab maxEndpoints (λ j. getD (c .owners) j 0) i 0 l, getD-tab maxEndpoints (λ j. flagOf (getD (w .attachments) j none)) i 0 l, getD-tab maxEndpoints (λ j. numberOf (getD (w .attachments) j none)) i 0 l)
@@ -118,26 +118,27 @@ module _ (c : Config) (good-c : Good c) (w : World) (size : length (w .attachmen
       go none = refl
       go (some e) = refl
 
+  -- the endpoint arrays have as many places each
+  pub places-size : min (length (stateOf c w .owners)) (min (length (stateOf c w .attached)) (length (stateOf c w .domains))) ≡ maxEndpoints
+  places-size = unfold stateOf in rw (length-tab maxEndpoints (λ j. getD (c .owners) j 0), length-tab maxEndpoints (λ j. flagOf (getD (w .attachments) j none)), length-tab maxEndpoints (λ j. numberOf (getD (w .attachments) j none)))
+
+  pub small-place : {i : ℕ} → i < length (w .attachments) → i < maxEndpoints
+  small-place l = omega (arith, l, size, good-c .sizes, good-c .few)
+
+  -- past the listed endpoints nothing is attached
+  pub listed-place : (g : Guest) (dom : Domain) (i : ℕ) → (eqb (getD (c .owners) i 0) (g .0) && isIn dom (getD (w .attachments) i none)) ≡ true → i < length (w .attachments)
+  listed-place g dom i x = go (ltb i (length (w .attachments))) refl
+    where
+      go : (b : Bool) → ltb i (length (w .attachments)) ≡ b → i < length (w .attachments)
+      go true y = ltb-true i _ y
+      go false y = true-false {P = i < length (w .attachments)} (isIn dom (getD (w .attachments) i none)) (both-right (eqb (getD (c .owners) i 0) (g .0)) _ x) (unfold isIn in (rw (List·getD-eq-default (w .attachments) none (ltb-false i _ y))))
+
   pub exists-written : (g : Guest) (dom : Domain) → flat.domainExists (stateOf c w) g dom ≡ domainExists dom (pickBy (g .0) (c .owners) (w .attachments))
   exists-written g dom =
       unfold flat.domainExists domainExists in
-      (rw sizes (same-test _ _
-      (λ x. let r = any-at maxEndpoints _ x in owned-from (g .0) (isIn dom) (c .owners) (w .attachments) (r .0) (inside (r .0) (rw (belongs-at g dom (r .0) (r .1)) at (r .2))) (omega (arith, size)) (rw (belongs-at g dom (r .0) (r .1)) at (r .2)))
-      (λ x. let r = owned-at (g .0) (isIn dom) (c .owners) (w .attachments) x in any-from maxEndpoints _ (r .0) (small (r .1)) (rw (belongs-at g dom (r .0) (small (r .1))) (r .2)))))
-    where
-      small : {i : ℕ} → i < length (w .attachments) → i < maxEndpoints
-      small l = omega (arith, l, size, good-c .sizes, good-c .few)
-
-      sizes : min (length (stateOf c w .owners)) (min (length (stateOf c w .attached)) (length (stateOf c w .domains))) ≡ maxEndpoints
-      sizes = unfold stateOf in rw (length-tab maxEndpoints (λ j. getD (c .owners) j 0), length-tab maxEndpoints (λ j. flagOf (getD (w .attachments) j none)), length-tab maxEndpoints (λ j. numberOf (getD (w .attachments) j none)))
-
-      -- past the listed endpoints nothing is attached
-      inside : (i : ℕ) → (eqb (getD (c .owners) i 0) (g .0) && isIn dom (getD (w .attachments) i none)) ≡ true → i < length (w .attachments)
-      inside i x = go (ltb i (length (w .attachments))) refl
-        where
-          go : (b : Bool) → ltb i (length (w .attachments)) ≡ b → i < length (w .attachments)
-          go true y = ltb-true i _ y
-          go false y = true-false {P = i < length (w .attachments)} (isIn dom (getD (w .attachments) i none)) (both-right (eqb (getD (c .owners) i 0) (g .0)) _ x) (unfold isIn in (rw (List·getD-eq-default (w .attachments) none (ltb-false i _ y))))
+      (rw places-size (same-test _ _
+      (λ x. let r = any-at maxEndpoints _ x in owned-from (g .0) (isIn dom) (c .owners) (w .attachments) (r .0) (listed-place g dom (r .0) (rw (belongs-at g dom (r .0) (r .1)) at (r .2))) (omega (arith, size)) (rw (belongs-at g dom (r .0) (r .1)) at (r .2)))
+      (λ x. let r = owned-at (g .0) (isIn dom) (c .owners) (w .attachments) x in any-from maxEndpoints _ (r .0) (small-place (r .1)) (rw (belongs-at g dom (r .0) (small-place (r .1))) (r .2)))))
 
 -- RECORDS
 

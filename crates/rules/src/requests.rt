@@ -9,7 +9,11 @@ pub const MAP: u8 = 3;
 
 pub const UNMAP: u8 = 4;
 
+pub const PROBE: u8 = 5;
+
 pub const OK: u8 = 0;
+
+pub const UNSUPP: u8 = 2;
 
 pub const DEVERR: u8 = 3;
 

@@ -2,30 +2,17 @@
 use rules::Fault;
 use rules::sizes::FAULT_SIZE;
 use wire_numbers::copying::copy_in;
+use wire_numbers::placing::put_field;
 ghost use mathlib.Core.Path.{_≡_};
 ghost use mathlib.Core.Bool.{cond};
 ghost use mathlib.Core.List.{_++_};
-ghost use Prim.Native.Nat.{_+_, _≤_};
 ghost use lib.Dec.{leb};
-ghost use lib.ListN.{length, take, drop};
-ghost use Rattle.laws.specs.Bytes.{leBytes};
+ghost use lib.ListN.{length, drop};
 ghost use Rattle.rules.specs.Sizes.{faultSize};
 ghost use Rattle.rules.specs.Access.{faultBytes};
 
 // Each byte of a fault record that no field takes.
 const RESERVED: u8 = 0;
-
-// The n bytes from byte k on become the lowest n of x, the lowest first.
-fn put_number(bytes: &mut [u8], k: usize, n: usize, x: u64)
-    requires { ⌜ k + n ≤ length (now bytes) ⌝ }
-    ensures { λ _. ⌜ now (bytes .exit) ≡ take k (now (bytes .entry)) ++ (leBytes n x ++ drop (k + n) (now (bytes .entry))) ⌝ }
-{
-    let mut rest = x;
-    for i in 0..n {
-        bytes[k + i] = (rest % 256) as u8;
-        rest = rest / 256;
-    }
-}
 
 // The 24 bytes of a fault record.
 fn fault_bytes(f: Fault) -> [u8; FAULT_SIZE]
@@ -36,9 +23,9 @@ fn fault_bytes(f: Fault) -> [u8; FAULT_SIZE]
     let address = f.address;
     let mut bytes = [RESERVED; FAULT_SIZE];
     bytes[0] = f.reason;
-    put_number(&mut bytes, 4, 4, flags);
-    put_number(&mut bytes, 8, 4, endpoint);
-    put_number(&mut bytes, 16, 8, address);
+    put_field(&mut bytes, 4, 4, flags);
+    put_field(&mut bytes, 8, 4, endpoint);
+    put_field(&mut bytes, 16, 8, address);
     bytes
 }
 

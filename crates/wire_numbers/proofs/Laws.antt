@@ -1,5 +1,5 @@
 -- Laws of numbers in bytes and of bytes copied.
-use Prim.Native.Nat.{ℕ, suc, _+_, _-_, _*_, _^_, _<_, _≤_, min}
+use Prim.Native.Nat.{ℕ, suc, _+_, _-_, _*_, _/_, _%_, _^_, _<_, _≤_, min}
 use mathlib.Core.Path.{_≡_, refl, ap}
 use mathlib.Core.Bool.{cond, _&&_}
 use mathlib.Core.List.{List, [], _∷_, _++_}
@@ -8,9 +8,9 @@ use native.Mathlib.Numerals.{add-one}
 use native.Mathlib.Omega.{arith}
 use lib.Dec.{leb}
 use lib.ListN.{length, getD, take, drop, set}
-use lib.Seq.{drop-cons, paste-suc}
+use lib.Seq.{drop-cons, paste-suc, take-suc-set, append-snoc}
 use borrow.Author.Tests.{le-leb, lt-leb}
-use Rattle.laws.specs.Bytes.{leField}
+use Rattle.laws.specs.Bytes.{leField, leBytes}
 
 -- a field with one more byte before it
 pub field-next : (bs : List ℕ) (k n i j : ℕ) → i ≡ suc j → i ≤ n → k + n ≤ length bs → 256 * leField (k + i) (n - i) bs + getD bs (k + j) 0 ≡ leField (k + j) (n - j) bs
@@ -52,3 +52,11 @@ no-field k n l x a b = rw (le-leb n 8 a, lt-leb (k + n) l b)
 -- 256 to any power is above 0
 pub power-above : (n : ℕ) → 0 < 256 ^ n
 power-above n = omega (arith, pow-le-pow-right {n = 256} (omega arith) {i = 0} {j = n} (omega arith))
+
+-- the next byte of a number put down, with z after the number
+pub put-next : (bs z : List ℕ) (k n i x : ℕ) → i < n → k + i < length bs
+    → take (k + (i + 1)) (set bs (k + i) (x % 256)) ++ (leBytes (n - (i + 1)) (x / 256) ++ z) ≡ take (k + i) bs ++ (leBytes (n - i) x ++ z)
+put-next bs z k n i x h l =
+    let a : k + (i + 1) ≡ suc (k + i) = omega arith in
+    let b : n - i ≡ suc (n - (i + 1)) = omega arith in
+    rw (a, b, take-suc-set bs (k + i) (x % 256) l) (append-snoc (take (k + i) bs) (x % 256) (leBytes (n - (i + 1)) (x / 256) ++ z))

@@ -1,3 +1,4 @@
 // Numbers in bytes, and bytes copied.
 pub mod copying;
 pub mod fields;
+pub mod placing;

@@ -9,11 +9,11 @@ use lib.ListN.{length}
 use Rattle.laws.specs.Lists.{firstFailing}
 use Rattle.rules.specs.declared.Refusal.{Refusal}
 use Rattle.rules.specs.declared.Refusal.the-variants.{UnknownType}
-use Rattle.rules.specs.Requests.{ATTACH, DETACH, MAP, UNMAP, readableLength, typeOf, domainField, endpointField, attachReserved, virtStart, virtEnd, physStart, mapFlags, unmapReserved, requestRefusals}
+use Rattle.rules.specs.Requests.{ATTACH, DETACH, MAP, UNMAP, PROBE, readableLength, typeOf, domainField, endpointField, attachReserved, virtStart, virtEnd, physStart, mapFlags, unmapReserved, probeEndpoint, requestRefusals}
 use Rattle.wire_requests.specs.declared.request.MapFields.{MapFields}
 use Rattle.wire_requests.specs.declared.request.UnmapFields.{UnmapFields}
 use Rattle.wire_requests.specs.declared.request.Request.{Request}
-use Rattle.wire_requests.specs.declared.request.Request.the-variants.{Refused, Attach, Detach, Map, Unmap}
+use Rattle.wire_requests.specs.declared.request.Request.the-variants.{Refused, Attach, Detach, Map, Unmap, Probe}
 
 -- "domain 4, virt_start 8, virt_end 8, phys_start 8, flags 4", without the domain
 abbrev pub mapFields : List ℕ → MapFields
@@ -30,7 +30,8 @@ asked r =
     (cond (eqb (typeOf r) DETACH) (Detach (domainField r) (endpointField r) (attachReserved r))
     (cond (eqb (typeOf r) MAP) (Map (domainField r) (mapFields r))
     (cond (eqb (typeOf r) UNMAP) (Unmap (domainField r) (unmapFields r))
-    (Refused UnknownType))))
+    (cond (eqb (typeOf r) PROBE) (Probe (probeEndpoint r))
+    (Refused UnknownType)))))
 
 -- a refusal, or what is asked where there is none
 unfoldable pub unless : Option Refusal → Request → Request
@@ -45,5 +46,5 @@ parsed r n = unless (firstFailing (requestRefusals r n)) (asked r)
 pub record Whole (t : ℕ) (r : List ℕ) : Type 0 where
   pub typed : t ≡ typeOf r
   pub low : ATTACH ≤ t
-  pub high : t ≤ UNMAP
+  pub high : t ≤ PROBE
   pub sized : length r ≡ readableLength t

@@ -4,7 +4,9 @@ ghost use Rattle.rules.specs.Requests.{readableLength, writableLength};
 use rules::requests::ATTACH;
 use rules::requests::DETACH;
 use rules::requests::MAP;
+use rules::requests::PROBE;
 use rules::requests::UNMAP;
+use rules::sizes::PROBE_SIZE;
 use rules::sizes::STATUS_SIZE;
 
 // The number of bytes that a request of this type has in its readable part.
@@ -16,7 +18,8 @@ pub fn readable_length(requested: u8) -> usize
         DETACH => 20,
         MAP => 36,
         UNMAP => 28,
-        0 | 5..=255 => 0,
+        PROBE => 72,
+        0 | 6..=255 => 0,
     }
 }
 
@@ -26,6 +29,7 @@ pub fn writable_length(requested: u8) -> usize
 {
     match requested {
         ATTACH..=UNMAP => STATUS_SIZE,
-        0 | 5..=255 => 0,
+        PROBE => PROBE_SIZE,
+        0 | 6..=255 => 0,
     }
 }

@@ -5,13 +5,14 @@ use rules::Refusal;
 use rules::requests::ATTACH;
 use rules::requests::DETACH;
 use rules::requests::MAP;
+use rules::requests::PROBE;
 use rules::requests::UNMAP;
 use wire_numbers::fields::field_at;
 ghost use mathlib.Core.Path.{_≡_};
 ghost use Prim.Native.Nat.{_+_, _≤_};
 ghost use lib.ListN.{length};
 ghost use Rattle.laws.specs.Bytes.{leField};
-ghost use Rattle.rules.specs.Requests.{domainField, endpointField, attachReserved};
+ghost use Rattle.rules.specs.Requests.{domainField, endpointField, attachReserved, probeEndpoint};
 ghost use Rattle.wire_requests.specs.Parsed.{parsed, asked, mapFields, unmapFields, Whole};
 
 // What a MAP asks for besides its domain.
@@ -37,6 +38,7 @@ pub enum Request {
     Detach(Domain, Endpoint, u64),
     Map(Domain, MapFields),
     Unmap(Domain, UnmapFields),
+    Probe(Endpoint),
 }
 
 // The 32-bit number in the four bytes that start at byte k.
@@ -47,7 +49,7 @@ fn u32_at(bytes: &[u8], k: usize) -> u32
     field_at(bytes, k, 4) as u32
 }
 
-// The domain of any request.
+// The domain of a request other than PROBE.
 fn domain_field(readable: &[u8]) -> Domain
     requires { ⌜ 20 ≤ length (now readable) ⌝ }
     ensures { λ r. ⌜ r ≡ domainField (now (readable .entry)) ⌝ }
@@ -103,6 +105,14 @@ fn unmap_fields(readable: &[u8]) -> UnmapFields
     }
 }
 
+// The endpoint of a PROBE, which stands where other requests have their domain.
+fn probed_field(readable: &[u8]) -> Endpoint
+    requires { ⌜ 20 ≤ length (now readable) ⌝ }
+    ensures { λ r. ⌜ r ≡ probeEndpoint (now (readable .entry)) ⌝ }
+{
+    Endpoint(u32_at(readable, 4))
+}
+
 // The fields of a request of a known type, whose readable part has that type's length.
 fn taken_apart(readable: &[u8], requested: u8) -> Request
     requires { ⌜ Whole requested (now readable) ⌝ }
@@ -114,7 +124,8 @@ fn taken_apart(readable: &[u8], requested: u8) -> Request
         DETACH => Request::Detach(domain, endpoint_field(readable), reserved_field(readable)),
         MAP => Request::Map(domain, map_fields(readable)),
         UNMAP => Request::Unmap(domain, unmap_fields(readable)),
-        0 | 5..=255 => Request::Refused(Refusal::UnknownType),
+        PROBE => Request::Probe(probed_field(readable)),
+        0 | 6..=255 => Request::Refused(Refusal::UnknownType),
     }
 }
 
@@ -127,7 +138,7 @@ pub fn parse(readable: &[u8], writable: usize) -> Request
     }
     let requested = readable[0];
     match requested {
-        ATTACH..=UNMAP => {
+        ATTACH..=PROBE => {
             let readable_length = crate::lengths::readable_length(requested);
             let writable_length = crate::lengths::writable_length(requested);
             if (readable.len() == readable_length) & (writable == writable_length) {
@@ -136,6 +147,6 @@ pub fn parse(readable: &[u8], writable: usize) -> Request
                 Request::Refused(Refusal::WrongLength)
             }
         }
-        0 | 5..=255 => Request::Refused(Refusal::UnknownType),
+        0 | 6..=255 => Request::Refused(Refusal::UnknownType),
     }
 }

@@ -9,7 +9,7 @@ returns : tie.Need-returns
 unfolding faultBytes
 returns c =
     let s = c .before .before .before .before in
-    c .before .put-number3 .ensures ∙ rw (s .put-number2 .ensures, s .before .before .before .put-number .ensures)
+    c .before .put-field3 .ensures ∙ rw (s .put-field2 .ensures, s .before .before .before .put-field .ensures)
 
 pub fault-bytes-spec : {M : Type 1} → statement M
 fault-bytes-spec =

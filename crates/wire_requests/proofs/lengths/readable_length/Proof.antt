@@ -3,10 +3,10 @@ use borrow.Author.Tests.{ne-eqb}
 use Rattle.wire_requests.proofs.lengths.readable_length.Statement.{statement}
 use Rattle.wire_requests.proofs.lengths.readable_length.Tie as tie
 
-rest : tie.Need-returns-6
+rest : tie.Need-returns-7
 rest c =
     let r = c .match .rest in
-    rw (ne-eqb _ _ (r .0 .0 .0 .0 .1), ne-eqb _ _ (r .0 .0 .0 .1), ne-eqb _ _ (r .0 .0 .1), ne-eqb _ _ (r .0 .1))
+    rw (ne-eqb _ _ (r .0 .0 .0 .0 .0 .1), ne-eqb _ _ (r .0 .0 .0 .0 .1), ne-eqb _ _ (r .0 .0 .0 .1), ne-eqb _ _ (r .0 .0 .1), ne-eqb _ _ (r .0 .1))
 
 pub readable-length-spec : {M : Type 1} → statement M
 readable-length-spec =
@@ -17,4 +17,5 @@ readable-length-spec =
     (λ c. rw (c .match .keys3))
     (λ c. rw (c .match .keys4))
     (λ c. rw (c .match .keys5))
+    (λ c. rw (c .match .keys6))
     rest)

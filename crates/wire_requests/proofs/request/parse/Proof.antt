@@ -54,7 +54,7 @@ zero-type c = rw (le-ltb _ _ (c .before .before .if1 .left), c .match .keys1)
 
 high-type : tie.Need-returns-5
 unfolding parsed unless
-high-type c = rw (le-ltb _ _ (c .before .before .before .if1 .left), lt-leb _ 4 (c .if2 .left), and-false)
+high-type c = rw (le-ltb _ _ (c .before .before .before .if1 .left), lt-leb _ 5 (c .if2 .left), and-false)
 
 pub parse-spec : {M : Type 1} → statement M
 parse-spec =

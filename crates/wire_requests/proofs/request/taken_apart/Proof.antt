@@ -33,11 +33,15 @@ unmap c =
     let d = c .before .before in
     rw (sym (d .before .before .pre .typed), c .before .match .keys4, d .domain-field .ensures, c .unmap-fields .ensures)
 
--- no known type is in the arm for the rest
-zero-type : tie.Need-returns-5
-zero-type c = absurd (omega (arith, c .match .keys5, c .before .before .before .pre .low))
+probe : tie.Need-returns-5
+unfolding asked
+probe c = rw (sym (c .before .before .before .before .pre .typed), c .before .match .keys5, c .probed-field .ensures)
 
-high-type : tie.Need-returns-6
+-- no known type is in the arm for the rest
+zero-type : tie.Need-returns-6
+zero-type c = absurd (omega (arith, c .match .keys6, c .before .before .before .pre .low))
+
+high-type : tie.Need-returns-7
 high-type c = absurd (omega (arith, c .match .rest, c .before .before .before .pre .low, c .before .before .before .pre .high))
 
 pub taken-apart-spec : {M : Type 1} → statement M
@@ -51,9 +55,11 @@ taken-apart-spec =
     (λ c κs. search needs)
     (λ c κs. search needs)
     (λ c κs. search needs)
+    (λ c κs. at-least (c .before .before .before .pre))
     attach
     detach
     map
     unmap
+    probe
     zero-type
     high-type)

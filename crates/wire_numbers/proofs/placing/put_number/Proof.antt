@@ -7,9 +7,9 @@ use borrow.Author.Needs.{needs}
 use lib.ListN.{length, take, drop, length-set, take-append-drop}
 use lib.Seq.{drop-set-lt}
 use Rattle.laws.specs.Bytes.{leBytes}
-use Rattle.wire_faults.proofs.Laws.{put-next}
-use Rattle.wire_faults.proofs.put_number.Statement.{statement}
-use Rattle.wire_faults.proofs.put_number.Tie as tie
+use Rattle.wire_numbers.proofs.Laws.{put-next}
+use Rattle.wire_numbers.proofs.placing.put_number.Statement.{statement}
+use Rattle.wire_numbers.proofs.placing.put_number.Tie as tie
 
 abbrev Inv-loop : tie.InvT-loop
 Inv-loop bytes₀ k n x rest₀ i₀ bytes rest i =

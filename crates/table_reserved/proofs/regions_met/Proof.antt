@@ -1,0 +1,49 @@
+-- met says of the regions below j whether a record meets one.
+use native.Mathlib.Omega.{arith}
+use borrow.Author.Needs.{needs}
+use Prim.Native.Nat.{_-_}
+use mathlib.Core.Path.{_≡_, _∙_}
+use lib.ListN.{take}
+use Rattle.laws.specs.Lists.{any?}
+use Rattle.rules.specs.Table.{records, overlap}
+use Rattle.state_regions.specs.Held.{heldCount}
+use Rattle.state_regions.proofs.Regions.{Asked, asked-none, asked-next, asked-all}
+use Rattle.table_reserved.specs.Reserved.{recordOver, regionsMet}
+use Rattle.table_reserved.proofs.regions_met.Statement.{statement}
+use Rattle.table_reserved.proofs.regions_met.Tie as tie
+
+abbrev Inv-loop : tie.InvT-loop
+Inv-loop t live key regions i n met₀ j₀ met j =
+    (n ≡ heldCount regions i) × Asked (λ q. any? (overlap (recordOver key q)) (take live (records t))) regions i met j
+
+abbrev μ-loop : tie.MeasureT-loop
+μ-loop t live key regions i n met₀ j₀ met j = n - j
+
+loop-again : tie.Need-loop-again Inv-loop μ-loop
+loop-again c =
+    let r = c .before in
+    let l = r .before .before .loop in
+    let a = r .before .before .before .before .before .before .args in
+    (l .inv .0, asked-next _ (a .regions .now) (a .i) (l .met) (c .overlaps .result) (l .j) (l .inv .1) (omega (arith, l .inv .0)) (c .overlaps .ensures ∙ rw (r .region-at .ensures)))
+
+returns : tie.Need-returns Inv-loop μ-loop
+unfolding regionsMet
+returns c =
+    let l = c .before .loop in
+    let a = c .before .before .before .before .before .args in
+    asked-all _ (a .regions .now) (a .i) (l .met) (l .j) (l .inv .1) (omega (arith, l .inv .0))
+
+pub regions-met-spec : {M : Type 1} → statement M
+regions-met-spec =
+    tie.close
+    (tie.spec
+    Inv-loop
+    μ-loop
+    (λ c κs. search needs)
+    (λ c. (c .count-at .ensures, asked-none _ _ _))
+    (λ c κs. search needs)
+    (λ c κs. search needs)
+    (λ c. search needs)
+    (λ c. search needs)
+    loop-again
+    returns)
