@@ -1,1 +1,2 @@
-pub mod Started
+mod Started
+mod Placed

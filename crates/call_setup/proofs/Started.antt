@@ -16,8 +16,8 @@ use Rattle.rules.specs.declared.State.{State}
 use Rattle.rules.specs.declared.Answer.the-variants.{Done, Refused}
 use Rattle.rules.specs.declared.Refusal.the-variants.{Unsound, BadConfiguration}
 use Rattle.rules.specs.Sizes.{maxGuests, maxEndpoints, maxFaults, faultPlaces, tableWords}
-use Rattle.rules.specs.Configuration.{goodSettings, goodLists, good}
-use Rattle.rules.specs.State.{Attachment, Log, noFault, noLog, flagOf, numberOf, trimmed, stateOf, start, zeroState}
+use Rattle.rules.specs.Configuration.{goodSettings, goodLists, goodRegions, good}
+use Rattle.rules.specs.State.{Attachment, Log, noFault, noLog, flagOf, numberOf, trimmed, trimmedRegions, stateOf, start, zeroState}
 use Rattle.rules.specs.Device.{setUp}
 use Rattle.state_fields.proofs.Rewriting.{Written, written-store, written-all}
 use Rattle.refinement.specs.Flat.{device}
@@ -71,7 +71,7 @@ unattached n m f e = zeros m _ (λ i. ap f (all-same n none i) ∙ e)
 unlogged : (n m : ℕ) (f : ℕ → Log → ℕ) (k : ℕ → ℕ) → ((i : ℕ) → f i noLog ≡ 0) → tab m (λ i. f i (getD (replicate n noLog) (k i) noLog)) ≡ replicate m 0
 unlogged n m f k e = zeros m _ (λ i. ap (λ (x : Log). f i x) (all-same n noLog (k i)) ∙ e i)
 
-pub start-fields : (s : Settings) (es os : List ℕ) (z : State) (t : Settings) (a b : List ℕ) → z ≡ zeroState → t ≡ trimmed s → a ≡ pad maxEndpoints 0 es → b ≡ pad maxEndpoints 0 os
+pub start-fields : (s : Settings) (es os qs : List ℕ) (z : State) (t : Settings) (a b d : List ℕ) → z ≡ zeroState → t ≡ trimmed s → a ≡ pad maxEndpoints 0 es → b ≡ pad maxEndpoints 0 os → d ≡ trimmedRegions (length es) qs
     → record {
       settings = t;
       listed = length es;
@@ -79,6 +79,7 @@ pub start-fields : (s : Settings) (es os : List ℕ) (z : State) (t : Settings) 
       owners = b;
       attached = z .attached;
       domains = z .domains;
+      regions = d;
       live = z .live;
       logged = z .logged;
       lost = z .lost;
@@ -87,9 +88,9 @@ pub start-fields : (s : Settings) (es os : List ℕ) (z : State) (t : Settings) 
       sources = z .sources;
       addresses = z .addresses;
     }
-    ≡ stateOf (configured s es os) (start (configured s es os))
+    ≡ stateOf (configured s es os qs) (start (configured s es os qs))
 unfolding stateOf start zeroState
-start-fields s es os z t a b e f g h =
+start-fields s es os qs z t a b d e f g h i =
     let n = length es in
     let k = s .guests in
     rw (
@@ -97,6 +98,7 @@ start-fields s es os z t a b e f g h =
       f,
       g,
       h,
+      i,
       unattached n maxEndpoints flagOf refl,
       unattached n maxEndpoints numberOf refl,
       unlogged k maxGuests (λ i l. length (l .faults)) (λ i. i) (λ i. refl),
@@ -113,25 +115,26 @@ nothing : (a : Bool) → false ≡ (a && false)
 nothing true = refl
 nothing false = refl
 
-module _ (s : Settings) (es os : List ℕ) where
-  pub good-differ : (length es ≡ length os → ⊥) → false ≡ good (configured s es os)
+module _ (s : Settings) (es os qs : List ℕ) where
+  pub good-differ : (length es ≡ length os → ⊥) → false ≡ good (configured s es os qs)
   unfolding good goodLists
   good-differ n = rw (ne-eqb (length es) (length os) n) (nothing (goodSettings s))
 
-  pub good-both : length es ≡ length os → (a b : Bool) → a ≡ goodSettings s → b ≡ goodLists s (take (length es) es) (take (length es) os) → (a && b) ≡ good (configured s es os)
+  pub good-all : length es ≡ length os → (a b d : Bool) → a ≡ goodSettings s → b ≡ goodLists s (take (length es) es) (take (length es) os) → d ≡ goodRegions (length es) qs
+      → (a && (b && d)) ≡ good (configured s es os qs)
   unfolding good
-  good-both n a b e f = rw (e, f, take-length es) (ap (λ (l : List ℕ). goodSettings s && goodLists s es l) (ap (λ k. take k os) n ∙ take-length os))
+  good-all n a b d e f g = rw (e, f, g, take-length es) (ap (λ (l : List ℕ). goodSettings s && (goodLists s es l && goodRegions (length es) qs)) (ap (λ k. take k os) n ∙ take-length os))
 
   module _ (ws : List ℕ) where
-    pub set-up-length : (z : State) → (length ws ≡ tableWords → ⊥) → z ≡ zeroState → record { answer = Refused Unsound; device = device z ws } ≡ setUp (configured s es os) ws
+    pub set-up-length : (z : State) → (length ws ≡ tableWords → ⊥) → z ≡ zeroState → record { answer = Refused Unsound; device = device z ws } ≡ setUp (configured s es os qs) ws
     unfolding setUp
     set-up-length z n e = rw (ne-eqb (length ws) tableWords n, e)
 
-    module _ (n : length ws ≡ tableWords) (b : Bool) (f : b ≡ good (configured s es os)) where
-      pub set-up-bad : (z : State) → not b ≡ true → z ≡ zeroState → record { answer = Refused BadConfiguration; device = device z ws } ≡ setUp (configured s es os) ws
+    module _ (n : length ws ≡ tableWords) (b : Bool) (f : b ≡ good (configured s es os qs)) where
+      pub set-up-bad : (z : State) → not b ≡ true → z ≡ zeroState → record { answer = Refused BadConfiguration; device = device z ws } ≡ setUp (configured s es os qs) ws
       unfolding setUp
       set-up-bad z t e = rw (eq-eqb (length ws) tableWords n, sym f, t, e)
 
-      pub set-up-done : (r : State) (vs : List ℕ) → not b ≡ false → vs ≡ replicate (length ws) 0 → r ≡ stateOf (configured s es os) (start (configured s es os)) → record { answer = Done; device = device r vs } ≡ setUp (configured s es os) ws
+      pub set-up-done : (r : State) (vs : List ℕ) → not b ≡ false → vs ≡ replicate (length ws) 0 → r ≡ stateOf (configured s es os qs) (start (configured s es os qs)) → record { answer = Done; device = device r vs } ≡ setUp (configured s es os qs) ws
       unfolding setUp
       set-up-done r vs t x e = rw (x, n, sym f, t, e)

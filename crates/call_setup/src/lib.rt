@@ -1,4 +1,6 @@
 // Set-up: the state that a configuration starts with.
+mod placing;
+
 ghost use mathlib.Core.Path.{_≡_};
 ghost use lib.ListN.{length};
 ghost use Rattle.laws.specs.Lists.{pad};
@@ -7,6 +9,7 @@ ghost use Rattle.rules.specs.Configuration.{good};
 ghost use Rattle.rules.specs.State.{trimmed, zeroState};
 ghost use Rattle.rules.specs.Device.{setUp};
 ghost use Rattle.refinement.specs.Setting.{configured, started};
+use placing::placed_regions;
 use refinement::CallResult;
 use rules::Answer;
 use rules::DomainRange;
@@ -17,6 +20,7 @@ use rules::State;
 use rules::sizes::FAULT_PLACES;
 use rules::sizes::MAX_ENDPOINTS;
 use rules::sizes::MAX_GUESTS;
+use rules::sizes::REGION_PLACES;
 use rules::sizes::TABLE_WORDS;
 
 // The state with every number zero.
@@ -38,6 +42,7 @@ pub fn zero_state() -> State
         owners: [0; MAX_ENDPOINTS],
         attached: [0; MAX_ENDPOINTS],
         domains: [0; MAX_ENDPOINTS],
+        regions: [0; REGION_PLACES],
         live: 0,
         logged: [0; MAX_GUESTS],
         lost: [0; MAX_GUESTS],
@@ -92,8 +97,8 @@ fn place_lists(
 }
 
 // Whether the configuration is good.
-fn is_good(s: Settings, endpoints: &[u32], owners: &[u8]) -> bool
-    ensures { λ r. ⌜ r ≡ good (configured s (now (endpoints .entry)) (now (owners .entry))) ⌝ }
+fn is_good(s: Settings, endpoints: &[u32], owners: &[u8], regions: &[u64]) -> bool
+    ensures { λ r. ⌜ r ≡ good (configured s (now (endpoints .entry)) (now (owners .entry)) (now (regions .entry))) ⌝ }
 {
     let n = endpoints.len();
     if n != owners.len() {
@@ -101,12 +106,19 @@ fn is_good(s: Settings, endpoints: &[u32], owners: &[u8]) -> bool
     }
     let set = config_settings::good_settings(s);
     let lists = config_endpoints::good_lists(s, n, endpoints, owners);
-    set & lists
+    let reserved = config_regions::good_regions(n, regions);
+    set & (lists & reserved)
 }
 
 // Set-up: on a table of the right length and a good configuration, the start state, and every word of the table zero.
-pub fn set_up(settings: Settings, endpoints: &[u32], owners: &[u8], t: &mut [u64]) -> CallResult
-    ensures { λ r. ⌜ started r (now (t .exit)) ≡ setUp (configured settings (now (endpoints .entry)) (now (owners .entry))) (now (t .entry)) ⌝ }
+pub fn set_up(
+    settings: Settings,
+    endpoints: &[u32],
+    owners: &[u8],
+    regions: &[u64],
+    t: &mut [u64],
+) -> CallResult
+    ensures { λ r. ⌜ started r (now (t .exit)) ≡ setUp (configured settings (now (endpoints .entry)) (now (owners .entry)) (now (regions .entry))) (now (t .entry)) ⌝ }
 {
     if t.len() != TABLE_WORDS {
         return CallResult {
@@ -114,7 +126,7 @@ pub fn set_up(settings: Settings, endpoints: &[u32], owners: &[u8], t: &mut [u64
             state: zero_state(),
         };
     }
-    if !is_good(settings, endpoints, owners) {
+    if !is_good(settings, endpoints, owners, regions) {
         return CallResult {
             answer: Answer::Refused(Refusal::BadConfiguration),
             state: zero_state(),
@@ -124,12 +136,14 @@ pub fn set_up(settings: Settings, endpoints: &[u32], owners: &[u8], t: &mut [u64
     let mut numbers: [u32; MAX_ENDPOINTS] = [0; MAX_ENDPOINTS];
     let mut holders: [u8; MAX_ENDPOINTS] = [0; MAX_ENDPOINTS];
     place_lists(endpoints, owners, &mut numbers, &mut holders);
+    let reserved = placed_regions(endpoints.len(), regions);
     let kept = trim(settings);
     let mut next = zero_state();
     next.settings = kept;
     next.listed = endpoints.len();
     next.endpoints = numbers;
     next.owners = holders;
+    next.regions = reserved;
     CallResult {
         answer: Answer::Done,
         state: next,
