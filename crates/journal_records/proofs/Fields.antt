@@ -1,13 +1,12 @@
 -- Laws of a journal's records.
-use Prim.Native.Nat.{ℕ, _+_, _≤_, _<_, min}
+use Prim.Native.Nat.{ℕ, _+_, _≤_, _<_}
 use mathlib.Core.Path.{_≡_, refl, sym, _∙_}
-use mathlib.Core.Bool.{Bool, true, false, cond, _&&_}
+use mathlib.Core.Bool.{cond, _&&_}
 use mathlib.Core.List.{List, [], _∷_}
 use native.Mathlib.Omega.{arith}
 use lib.Dec.{leb, eqb}
-use lib.ListN.{length, take}
-use lib.Seq.{take-all}
-use borrow.Author.Tests.{leb-true, leb-false, le-leb, lt-ltb, le-ltb, ne-eqb}
+use lib.ListN.{length}
+use borrow.Author.Tests.{le-leb, lt-ltb, le-ltb, ne-eqb}
 use Rattle.laws.specs.Bytes.{leField}
 use Rattle.laws.proofs.Tests.{either-way}
 use Rattle.journal_records.specs.declared.Item.the-variants.{Cut, Wrong}
@@ -56,15 +55,6 @@ module _ (s : List ℕ) where
   pub front-whole : 0 < length s → 0 < bodyLength (kindOf s) → sizeOf s ≤ length s → itemOf s ≡ front s
   unfolding front
   front-whole h b l = rw (ne-eqb (length s) 0 (λ z. omega arith), ne-eqb (bodyLength (kindOf s)) 0 (λ z. omega arith), le-ltb (length s) (sizeOf s) l)
-
--- of 32 elements, the first n are the first min n 32
-pub take-listed : (n : ℕ) (l : List ℕ) → length l ≡ 32 → take (min n 32) l ≡ take n l
-take-listed n l e = go (leb n 32) refl
-  where
-    go : (b : Bool) → leb n 32 ≡ b → take (min n 32) l ≡ take n l
-    go true h = let z : min n 32 ≡ n = omega (arith, leb-true n 32 h) in rw z
-    go false h =
-        take-all (min n 32) l (omega (arith, leb-false n 32 h)) ∙ sym (take-all n l (omega (arith, leb-false n 32 h)))
 
 -- of no bytes, the kind byte alone is asked for
 pub size-none : (s : List ℕ) → length s ≡ 0 → sizeOf s ≡ 1
