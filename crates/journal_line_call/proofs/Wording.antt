@@ -5,12 +5,13 @@ use mathlib.Core.List.{List, [], _∷_, _++_, append-assoc}
 use native.Mathlib.Omega.{arith}
 use borrow.Author.Tests.{eq-eqb, ne-eqb}
 use Rattle.rules.specs.declared.Answer.{Answer}
+use Rattle.rules.specs.Requests.{statusIn}
 use Rattle.rules.specs.Answers.{number, usedLength, addressOf}
 use Rattle.journal_text.specs.Text.{newline, decimal, address}
 use Rattle.journal_line_plain.specs.Plain.{numberLine}
 use Rattle.journal_text.proofs.Numbers.{decimal-one}
 use Rattle.journal_line_plain.proofs.Numbers.{number-text}
-use Rattle.journal_line_call.specs.Lines.{statusIn, requestLine, accessLine}
+use Rattle.journal_line_call.specs.Lines.{requestLine, accessLine}
 
 -- the start of a request's line
 abbrev pub requestHead : ℕ → List ℕ

@@ -1,18 +1,13 @@
 -- "Journal and its output": what the lines of a request and of an access say. Every line ends in a newline.
-use Prim.Native.Nat.{ℕ, _-_}
+use Prim.Native.Nat.{ℕ}
 use mathlib.Core.Bool.{cond}
 use mathlib.Core.List.{List, [], _∷_, _++_}
 use lib.Dec.{eqb}
-use lib.ListN.{length, getD}
 use Rattle.rules.specs.declared.Answer.{Answer}
-use Rattle.rules.specs.Sizes.{statusSize}
+use Rattle.rules.specs.Requests.{statusIn}
 use Rattle.rules.specs.Answers.{number, usedLength, addressOf}
 use Rattle.journal_text.specs.Text.{newline, decimal, address}
 use Rattle.journal_line_plain.specs.Plain.{space, dash, letterA, letterR, numberLine}
-
--- the status in a writable part as left: the first of its last four bytes
-abbrev pub statusIn : List ℕ → ℕ
-statusIn writable = getD writable (length writable - statusSize) 0
 
 -- "`R` gives number, used length, status; an unhandled request prints `R 3 0 -` (with its number)": of the answer and the
 -- writable part as left

@@ -12,14 +12,16 @@ use journal_text::put_decimal;
 use rules::Answer;
 use rules::sizes::STATUS_SIZE;
 ghost use mathlib.Core.Path.{_≡_};
-ghost use Prim.Native.Nat.{_-_};
+ghost use Prim.Native.Nat.{_-_, _≤_};
 ghost use Rattle.rules.specs.Sizes.{statusSize};
-ghost use Rattle.journal_line_call.specs.Lines.{statusIn, requestLine, accessLine};
+ghost use Rattle.rules.specs.Requests.{statusIn};
+ghost use Rattle.journal_line_call.specs.Lines.{requestLine, accessLine};
 ghost use Rattle.journal_text.specs.Placing.{lineRoom, written, writtenCount};
 
-// Puts a request's number, used length and status; a dash for the status where the request was not worked.
+// Puts a request's number, used length and status; a dash for the status where the request was not worked. No more bytes than
+// the room of a line are put.
 pub fn put_request(out: &mut [u8], at: usize, a: Answer, writable: &[u8]) -> usize
-    ensures { λ r. ⌜ (r ≡ writtenCount lineRoom at (requestLine a (now (writable .entry))) (now (out .entry))) × (now (out .exit) ≡ written lineRoom at (requestLine a (now (writable .entry))) (now (out .entry))) ⌝ }
+    ensures { λ r. ⌜ (r ≡ writtenCount lineRoom at (requestLine a (now (writable .entry))) (now (out .entry))) × (now (out .exit) ≡ written lineRoom at (requestLine a (now (writable .entry))) (now (out .entry))) × (r ≤ lineRoom) ⌝ }
 {
     if !has_room(out.len(), at, LINE_ROOM) {
         return 0;

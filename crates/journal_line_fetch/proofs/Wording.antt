@@ -1,18 +1,18 @@
 -- Laws of a fetch's lines: the pieces that are put one after the other.
-use Prim.Native.Nat.{ℕ, zero, suc, _+_, _-_, _*_, _/_, _%_, _≤_, _<_}
-use mathlib.Core.Path.{_≡_, refl}
+use Prim.Native.Nat.{ℕ, suc, _+_, _-_, _*_, _≤_, _<_}
+use mathlib.Core.Path.{_≡_}
 use mathlib.Core.Bool.{true}
 use mathlib.Core.List.{List, [], _∷_, _++_, append-assoc}
 use native.Mathlib.Omega.{arith}
 use borrow.Author.Tests.{eq-eqb, ne-eqb, leb-true}
 use lib.Dec.{leb}
-use lib.ListN.{length, getD, take, drop}
-use lib.Seq.{take-suc, drop-drop}
+use lib.ListN.{length, take, drop}
+use lib.Seq.{drop-drop}
 use Rattle.laws.proofs.Tests.{both-left, both-right}
 use Rattle.rules.specs.Sizes.{maxFaults, faultSize}
 use Rattle.rules.specs.declared.Answer.{Answer}
 use Rattle.rules.specs.Answers.{number, fetchedCount}
-use Rattle.journal_text.specs.Text.{newline, digit, decimal, hexBytes}
+use Rattle.journal_text.specs.Text.{newline, decimal, hexLine}
 use Rattle.journal_line_plain.specs.Plain.{numberLine}
 use Rattle.journal_text.proofs.Numbers.{decimal-one}
 use Rattle.journal_line_fetch.specs.Lines.{recordLines, fetchLines, fetchFits}
@@ -41,18 +41,8 @@ module _ (a : Answer) where
       (leb-true n maxFaults (both-left few whole e), leb-true (faultSize * n) (length b) (both-right few whole e))
 
 -- the first of the records that are left
-pub records-next : (n i : ℕ) (b : List ℕ) → i < n → recordLines (n - i) (drop (24 * i) b) ≡ (hexBytes (take 24 (drop (24 * i) b)) ++ (newline ∷ [])) ++ recordLines (n - (i + 1)) (drop (24 * (i + 1)) b)
+pub records-next : (n i : ℕ) (b : List ℕ) → i < n → recordLines (n - i) (drop (24 * i) b) ≡ hexLine (take 24 (drop (24 * i) b)) ++ recordLines (n - (i + 1)) (drop (24 * (i + 1)) b)
 records-next n i b h =
     let e : n - i ≡ suc (n - (i + 1)) = omega arith in
     let f : 24 * (i + 1) ≡ 24 * i + 24 = omega arith in
-    rw (e, f, ← drop-drop, append-assoc)
-
--- bytes in hex, those of a list and then those of another
-hexBytes-append : (xs ys : List ℕ) → hexBytes (xs ++ ys) ≡ hexBytes xs ++ hexBytes ys
-hexBytes-append [] ys = refl
-hexBytes-append (x ∷ xs) ys = rw (hexBytes-append xs ys)
-
--- the last of some bytes in hex
-pub hexBytes-next : (bs : List ℕ) (i : ℕ) → 1 ≤ i → i ≤ length bs → hexBytes (take i bs) ≡ hexBytes (take (i - 1) bs) ++ (digit (getD bs (i - 1) 0 / 16) ∷ digit (getD bs (i - 1) 0 % 16) ∷ [])
-hexBytes-next bs zero h l = absurd (omega arith)
-hexBytes-next bs (suc j) h l = let e : suc j - 1 ≡ j = omega arith in rw (e, take-suc bs j 0 l, hexBytes-append)
+    rw (e, f, ← drop-drop)

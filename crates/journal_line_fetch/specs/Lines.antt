@@ -7,7 +7,7 @@ use lib.ListN.{length, take, drop}
 use Rattle.rules.specs.declared.Answer.{Answer}
 use Rattle.rules.specs.Sizes.{maxFaults, faultSize}
 use Rattle.rules.specs.Answers.{number, fetchedCount}
-use Rattle.journal_text.specs.Text.{newline, decimal, hexBytes}
+use Rattle.journal_text.specs.Text.{newline, decimal, hexLine}
 use Rattle.journal_text.specs.Placing.{lineRoom}
 use Rattle.journal_line_plain.specs.Plain.{space, letterF, numberLine}
 
@@ -22,7 +22,7 @@ fetchRoom = lineRoom + recordLine * maxFaults
 -- "then a line for each record": the first n records of a buffer
 abbrev pub recordLines : ℕ → List ℕ → List ℕ
 recordLines zero buffer = []
-recordLines (suc n) buffer = hexBytes (take faultSize buffer) ++ (newline ∷ recordLines n (drop faultSize buffer))
+recordLines (suc n) buffer = hexLine (take faultSize buffer) ++ recordLines n (drop faultSize buffer)
 
 -- "A fetch prints `F 0` and its count, then a line for each record; refused, `F` and the number."
 unfoldable pub fetchLines : Answer → List ℕ → List ℕ

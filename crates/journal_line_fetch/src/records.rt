@@ -1,17 +1,14 @@
 // The lines of a fetch's records.
 use call_answers::count_of;
-use journal_text::hex_of;
-use journal_text::put_bytes;
+use journal_text::put_hex;
 use rules::Answer;
 use rules::sizes::FAULT_SIZE;
 use rules::sizes::MAX_FAULTS;
 ghost use mathlib.Core.Path.{_≡_};
-ghost use mathlib.Core.List.{_∷_, [], _++_};
 ghost use Prim.Native.Nat.{_+_, _*_, _≤_};
 ghost use lib.ListN.{length};
 ghost use Rattle.rules.specs.Sizes.{maxFaults, faultSize};
 ghost use Rattle.journal_line_fetch.specs.Lines.{recordLine, recordLines, fetchFits};
-ghost use Rattle.journal_text.specs.Text.{newline, hexBytes};
 ghost use Rattle.journal_text.specs.Placing.{placed};
 
 // The bytes of a record's line: two digits for each of the record's, and a newline.
@@ -28,22 +25,6 @@ pub(crate) fn fetch_fits(a: Answer, buffer: &[u8]) -> bool
     FAULT_SIZE * count <= buffer.len()
 }
 
-// The bytes of a fault record in hex, and a newline.
-fn record_line(bytes: &[u8]) -> [u8; RECORD_LINE]
-    requires { ⌜ length (now bytes) ≡ faultSize ⌝ }
-    ensures { λ r. ⌜ r ≡ hexBytes (now (bytes .entry)) ++ (newline ∷ []) ⌝ }
-{
-    let mut line = [b'\n'; RECORD_LINE];
-    let mut i = FAULT_SIZE;
-    while 0 < i {
-        i -= 1;
-        let digits = hex_of(bytes[i]);
-        line[2 * i + 1] = digits[1];
-        line[2 * i] = digits[0];
-    }
-    line
-}
-
 // A line for each of the first `count` records of a buffer, put at a place; the place after them is given back.
 pub(crate) fn put_records(out: &mut [u8], at: usize, count: usize, buffer: &[u8]) -> usize
     requires { ⌜ (count ≤ maxFaults) × (faultSize * count ≤ length (now buffer)) × (at + recordLine * count ≤ length (now out)) ⌝ }
@@ -53,8 +34,7 @@ pub(crate) fn put_records(out: &mut [u8], at: usize, count: usize, buffer: &[u8]
     for i in 0..count {
         let start = FAULT_SIZE * i;
         let end = start + FAULT_SIZE;
-        let line = record_line(&buffer[start..end]);
-        next = put_bytes(out, next, &line);
+        next = put_hex(out, next, &buffer[start..end]);
     }
     next
 }

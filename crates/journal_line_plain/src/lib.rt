@@ -9,7 +9,7 @@ ghost use mathlib.Core.Path.{_≡_};
 ghost use Rattle.journal_line_plain.specs.Plain.{numberLine, badLine, endLine, lastLine};
 ghost use Rattle.journal_text.specs.Placing.{lineRoom, written, writtenCount};
 
-// The room that is asked for any line but a fetch's.
+// The room that is asked for any line but one of bytes in hex.
 pub const LINE_ROOM: usize = 64;
 
 // A letter and an answer's number.

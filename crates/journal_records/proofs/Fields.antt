@@ -1,17 +1,16 @@
 -- Laws of a journal's records.
-use Prim.Native.Nat.{ℕ, _+_, _≤_, _<_, min}
+use Prim.Native.Nat.{ℕ, _+_, _≤_, _<_}
 use mathlib.Core.Path.{_≡_, refl, sym, _∙_}
-use mathlib.Core.Bool.{Bool, true, false, cond, _&&_}
+use mathlib.Core.Bool.{cond, _&&_}
 use mathlib.Core.List.{List, [], _∷_}
 use native.Mathlib.Omega.{arith}
 use lib.Dec.{leb, eqb}
-use lib.ListN.{length, take}
-use lib.Seq.{take-all}
-use borrow.Author.Tests.{leb-true, leb-false, le-leb, lt-ltb, le-ltb, ne-eqb}
+use lib.ListN.{length}
+use borrow.Author.Tests.{le-leb, lt-ltb, le-ltb, ne-eqb}
 use Rattle.laws.specs.Bytes.{leField}
 use Rattle.laws.proofs.Tests.{either-way}
 use Rattle.journal_records.specs.declared.Item.the-variants.{Cut, Wrong}
-use Rattle.journal_records.specs.Items.{GUEST, ENDPOINT, START, REQUEST20, REQUEST28, REQUEST36, ACCESS, RESET, FETCH, longestBody, bodyLength, kindOf, sizeOf, itemOf, front}
+use Rattle.journal_records.specs.Items.{GUEST, ENDPOINT, START, REGION, REQUEST20, REQUEST28, REQUEST36, REQUEST72, ACCESS, RESET, FETCH, longestBody, bodyLength, kindOf, sizeOf, itemOf, front}
 
 -- a field that is all there
 pub field-there :
@@ -30,12 +29,14 @@ body-most k =
     either-way Few (eqb k GUEST) (λ _. omega arith) (λ _.
     either-way Few (eqb k ENDPOINT) (λ _. omega arith) (λ _.
     either-way Few (eqb k START) (λ _. omega arith) (λ _.
+    either-way Few (eqb k REGION) (λ _. omega arith) (λ _.
     either-way Few (eqb k REQUEST20) (λ _. omega arith) (λ _.
     either-way Few (eqb k REQUEST28) (λ _. omega arith) (λ _.
     either-way Few (eqb k REQUEST36) (λ _. omega arith) (λ _.
+    either-way Few (eqb k REQUEST72) (λ _. omega arith) (λ _.
     either-way Few (eqb k ACCESS) (λ _. omega arith) (λ _.
     either-way Few (eqb k RESET) (λ _. omega arith) (λ _.
-    either-way Few (eqb k FETCH) (λ _. omega arith) (λ _. omega arith)))))))))
+    either-way Few (eqb k FETCH) (λ _. omega arith) (λ _. omega arith)))))))))))
 
 -- what stands at the front, by how many bytes there are
 module _ (s : List ℕ) where
@@ -54,15 +55,6 @@ module _ (s : List ℕ) where
   pub front-whole : 0 < length s → 0 < bodyLength (kindOf s) → sizeOf s ≤ length s → itemOf s ≡ front s
   unfolding front
   front-whole h b l = rw (ne-eqb (length s) 0 (λ z. omega arith), ne-eqb (bodyLength (kindOf s)) 0 (λ z. omega arith), le-ltb (length s) (sizeOf s) l)
-
--- of 32 elements, the first n are the first min n 32
-pub take-listed : (n : ℕ) (l : List ℕ) → length l ≡ 32 → take (min n 32) l ≡ take n l
-take-listed n l e = go (leb n 32) refl
-  where
-    go : (b : Bool) → leb n 32 ≡ b → take (min n 32) l ≡ take n l
-    go true h = let z : min n 32 ≡ n = omega (arith, leb-true n 32 h) in rw z
-    go false h =
-        take-all (min n 32) l (omega (arith, leb-false n 32 h)) ∙ sym (take-all n l (omega (arith, leb-false n 32 h)))
 
 -- of no bytes, the kind byte alone is asked for
 pub size-none : (s : List ℕ) → length s ≡ 0 → sizeOf s ≡ 1

@@ -2,13 +2,14 @@
 ghost use mathlib.Core.Path.{_≡_};
 ghost use Prim.Native.Nat.{_<_, _≤_};
 ghost use lib.ListN.{length};
-ghost use Rattle.journal_records.specs.Items.{longestBody, bodyLength, kindOf, sizeOf, guestFields, startFields, endpointAt, itemOf};
+ghost use Rattle.journal_records.specs.Items.{longestBody, bodyLength, kindOf, sizeOf, guestFields, startFields, endpointAt, regionFields, itemOf};
 ghost use Rattle.journal_records.specs.Items as items;
 use rules::Access;
 use rules::DomainRange;
 use rules::Endpoint;
 use rules::Guest;
 use rules::InputRange;
+use rules::Region;
 use rules::sizes::MAX_FAULTS;
 use wire_numbers::fields::field_at;
 
@@ -35,14 +36,18 @@ pub enum Item {
     NamedGuest(GuestFields),
     NamedEndpoint(Endpoint, Guest),
     Start(StartFields),
+    // One region more of an endpoint.
+    NamedRegion(Endpoint, Region),
     Request(Guest),
+    // A request that the properties are printed of, in a writable part with room for them.
+    Probe(Guest),
     AccessBy(Access),
     Reset(Guest),
     Fetch(Guest, usize),
 }
 
 // The bytes of the longest body: a guest, and the bytes of the longest request.
-const LONGEST_BODY: usize = 37;
+const LONGEST_BODY: usize = 73;
 
 // The bytes of a record's body by its kind, 0 for an unknown kind.
 fn body_length(kind: u8) -> usize
@@ -52,9 +57,11 @@ fn body_length(kind: u8) -> usize
         0x01 => 18,
         0x02 => 5,
         0x03 => 32,
+        0x04 => 21,
         0x11 => 21,
         0x12 => 29,
-        0x13 => LONGEST_BODY,
+        0x13 => 37,
+        0x14 => LONGEST_BODY,
         0x21 => 13,
         0x22 => 1,
         0x23 => 2,
@@ -110,6 +117,18 @@ fn endpoint_field(s: &[u8]) -> Endpoint
     Endpoint(field_at(s, 1, 4) as u32)
 }
 
+// The region whose subtype stands at byte 5.
+fn region_fields(s: &[u8]) -> Region
+    requires { ⌜ 22 ≤ length (now s) ⌝ }
+    ensures { λ r. ⌜ r ≡ regionFields (now (s .entry)) ⌝ }
+{
+    Region {
+        subtype: s[5] as u64,
+        start: field_at(s, 6, 8),
+        end: field_at(s, 14, 8),
+    }
+}
+
 // An access, if its last byte says read or write.
 fn access_item(s: &[u8]) -> Item
     requires { ⌜ (14 ≤ length (now s)) × (kindOf (now s) ≡ 33) ⌝ }
@@ -152,6 +171,8 @@ fn take_item(s: &[u8]) -> Item
         0x01 => Item::NamedGuest(guest_fields(s)),
         0x02 => Item::NamedEndpoint(endpoint_field(s), Guest(s[5])),
         0x03 => Item::Start(start_fields(s)),
+        0x04 => Item::NamedRegion(endpoint_field(s), region_fields(s)),
+        0x14 => Item::Probe(Guest(s[1])),
         0x21 => access_item(s),
         0x22 => Item::Reset(Guest(s[1])),
         0x23 => fetch_item(s),

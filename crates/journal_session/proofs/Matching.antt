@@ -1,11 +1,11 @@
 -- What the code's results tell of a step.
-use Prim.Native.Nat.{ℕ, _+_, _<_, _≤_}
+use Prim.Native.Nat.{ℕ, _+_, _≤_}
 use mathlib.Core.Path.{_≡_, refl, sym}
 use mathlib.Core.Bool.{Bool, true, false, not, _&&_, and-false}
 use mathlib.Core.List.{List, []}
-use lib.Dec.{leb, ltb}
+use lib.Dec.{leb}
 use lib.ListN.{length}
-use borrow.Author.Tests.{le-leb, le-ltb, lt-ltb}
+use borrow.Author.Tests.{le-leb}
 use Rattle.journal_text.proofs.Places.{placed-none}
 use Rattle.journal_session.specs.declared.session.Session.{Session}
 use Rattle.journal_session.specs.declared.session.StepResult.{StepResult}
@@ -14,7 +14,7 @@ use Rattle.journal_records.specs.Items.{sizeOf, front}
 use Rattle.journal_session.specs.Steps.{recordRoom, RecordStep, allowed, done, stepOf, stepRecord, stepIn}
 use Rattle.journal_session.specs.Matching.{stepResult, Matches}
 
--- nothing is printed: no record is worked, or one that names a guest or an endpoint
+-- nothing is printed: no record is worked, or one that names a guest, an endpoint or a region
 pub matches-silent : {r : StepResult} {p : Session} {n : ℕ} {b : Bool} {t out : List ℕ} {k : ℕ} → r ≡ stepResult p n 0 b → Matches r t out out k (record { session = p; table = t; read = n; printed = []; bad = b })
 matches-silent {out = out} {k = k} e =
     rw e (record { session = refl; words = refl; read = refl; printed = refl; bad = refl; lines = sym (placed-none k out) })
@@ -27,19 +27,19 @@ module _ (b : Bool) (x : RecordStep) (r : StepResult) (p : Session) (t out left 
   pub accepted : (words : List ℕ) → b ≡ true → Matches r words out left k x → Matches r words out left k (allowed b p t x)
   accepted words e h = rw e h
 
--- a result tells of a record that names one more, where n are named so far, of at most `most`, and the session is then q
-abbrev pub NameMatches : Session → ℕ → ℕ → List ℕ → Session → StepResult → Type 0
-NameMatches p n most s q r = (t out : List ℕ) (k : ℕ) → Matches r t out out k (allowed (not (p .started) && ltb n most) p t (done s q t []))
+-- a result tells of a record that names one more, which it may, and the session is then q
+abbrev pub NameMatches : Session → Bool → List ℕ → Session → StepResult → Type 0
+NameMatches p may s q r = (t out : List ℕ) (k : ℕ) → Matches r t out out k (allowed (not (p .started) && may) p t (done s q t []))
 
-module _ (p : Session) (n most : ℕ) (s : List ℕ) (q : Session) {r : StepResult} where
-  pub named-late : p .started ≡ true → r ≡ stepResult p 0 0 true → NameMatches p n most s q r
-  named-late h e t out k = refused (not (p .started) && ltb n most) (done s q t []) r p t out out k (rw h) e
+module _ (p : Session) (may : Bool) (s : List ℕ) (q : Session) {r : StepResult} where
+  pub named-late : p .started ≡ true → r ≡ stepResult p 0 0 true → NameMatches p may s q r
+  named-late h e t out k = refused (not (p .started) && may) (done s q t []) r p t out out k (rw h) e
 
-  pub named-past : most ≤ n → r ≡ stepResult p 0 0 true → NameMatches p n most s q r
-  named-past h e t out k = refused (not (p .started) && ltb n most) (done s q t []) r p t out out k (rw (le-ltb n most h, and-false)) e
+  pub named-past : may ≡ false → r ≡ stepResult p 0 0 true → NameMatches p may s q r
+  named-past h e t out k = refused (not (p .started) && may) (done s q t []) r p t out out k (rw (h, and-false)) e
 
-  pub named-more : p .started ≡ false → n < most → (m : ℕ) → m ≡ sizeOf s → r ≡ stepResult q m 0 false → NameMatches p n most s q r
-  named-more h l m z e t out k = accepted (not (p .started) && ltb n most) (done s q t []) r p t out out k t (rw (h, lt-ltb n most l)) (matches-silent (rw z at e))
+  pub named-more : p .started ≡ false → may ≡ true → (m : ℕ) → m ≡ sizeOf s → r ≡ stepResult q m 0 false → NameMatches p may s q r
+  named-more h l m z e t out k = accepted (not (p .started) && may) (done s q t []) r p t out out k t (rw (h, l)) (matches-silent (rw z at e))
 
 -- the step of the item that stands at the front, where there is room for its lines
 module _ (p : Session) (t s : List ℕ) where

@@ -1,10 +1,17 @@
 -- The configuration that a journal names before its start. It is gathered in the places of the state that set-up would fill.
-use Prim.Native.Nat.{_+_}
-use lib.ListN.{set}
+use Prim.Native.Nat.{ℕ, suc, _+_, _*_}
+use mathlib.Core.Bool.{Bool, _&&_}
+use mathlib.Core.List.{List}
+use lib.Dec.{ltb}
+use lib.ListN.{length, take, set}
+use Rattle.rules.specs.Sizes.{maxRegions, regionWords, endpointRegionWords}
 use Rattle.rules.specs.declared.Guest.{Guest}
 use Rattle.rules.specs.declared.Endpoint.{Endpoint}
+use Rattle.rules.specs.declared.Region.{Region}
 use Rattle.rules.specs.declared.Settings.{Settings}
 use Rattle.rules.specs.declared.State.{State}
+use Rattle.rules.specs.Configuration.{regionCount}
+use Rattle.state_endpoints.specs.Search.{indexOf}
 use Rattle.state_fields.specs.Fields.{withGuests, withRanges, withLists}
 use Rattle.journal_records.specs.declared.GuestFields.{GuestFields}
 use Rattle.journal_records.specs.declared.StartFields.{StartFields}
@@ -17,6 +24,28 @@ guestNamed f s =
 -- one endpoint more
 abbrev pub endpointNamed : Endpoint → Guest → State → State
 endpointNamed e g s = withLists (s .listed + 1) (set (s .endpoints) (s .listed) (e .0)) (set (s .owners) (s .listed) (g .0)) s
+
+-- where the word of region j of endpoint i stands that has place k among the region's
+abbrev pub regionPlace : ℕ → ℕ → ℕ → ℕ
+regionPlace i j k = endpointRegionWords * i + suc (regionWords * j + k)
+
+-- the words with region q as region j of endpoint i, and its last
+abbrev pub regionPut : ℕ → ℕ → Region → List ℕ → List ℕ
+regionPut i j q words =
+    set (set (set (set words (endpointRegionWords * i) (suc j)) (regionPlace i j 0) (q .subtype)) (regionPlace i j 1) (q .start)) (regionPlace i j 2) (q .end)
+
+-- the place of an endpoint among those named: its first
+abbrev pub namedPlace : ℕ → List ℕ → Endpoint → ℕ
+namedPlace n endpoints e = indexOf (e .0) (take n endpoints)
+
+-- one region more may be named: not "for an endpoint not yet named or as its fifth region"
+unfoldable pub regionTaken : ℕ → List ℕ → List ℕ → Endpoint → Bool
+regionTaken n endpoints words e =
+    ltb (namedPlace n endpoints e) (length (take n endpoints)) && ltb (regionCount words (namedPlace n endpoints e)) maxRegions
+
+-- one region more, after those that its endpoint has
+unfoldable pub regionNamed : ℕ → List ℕ → List ℕ → Endpoint → Region → List ℕ
+regionNamed n endpoints words e q = regionPut (namedPlace n endpoints e) (regionCount words (namedPlace n endpoints e)) q words
 
 -- the mask and the two ranges that a start names
 abbrev pub rangesNamed : StartFields → Settings → Settings

@@ -4,24 +4,26 @@ use mathlib.Core.Bool.{Bool, true, false, cond, not, _&&_}
 use mathlib.Core.List.{List, []}
 use lib.Dec.{leb, ltb}
 use lib.ListN.{replicate}
-use Rattle.rules.specs.Sizes.{maxGuests, maxEndpoints, faultSize, statusSize}
+use Rattle.rules.specs.Sizes.{maxGuests, maxEndpoints, faultSize, statusSize, probeSize}
 use Rattle.rules.specs.declared.Guest.{Guest}
 use Rattle.rules.specs.declared.Endpoint.{Endpoint}
+use Rattle.rules.specs.declared.Region.{Region}
 use Rattle.rules.specs.declared.Access.{Access}
 use Rattle.rules.specs.declared.State.{State}
 use Rattle.rules.specs.State.{Device, configOf, zeroState}
 use Rattle.rules.specs.Device.{Reply, SetUp, step, setUp, request, reset, fetch, of-guest, access-by}
-use Rattle.state_fields.specs.Fields.{withSettings}
+use Rattle.state_fields.specs.Fields.{withSettings, withRegions}
 use Rattle.journal_line_plain.specs.Plain.{letterS, letterZ, numberLine}
 use Rattle.journal_line_call.specs.Lines.{requestLine, accessLine}
+use Rattle.journal_line_probe.specs.Lines.{probeLines}
 use Rattle.journal_line_fetch.specs.Lines.{fetchRoom, fetchLines}
 use Rattle.journal_records.specs.declared.GuestFields.{GuestFields}
 use Rattle.journal_records.specs.declared.StartFields.{StartFields}
 use Rattle.journal_records.specs.declared.Item.{Item}
-use Rattle.journal_records.specs.declared.Item.the-variants.{Cut, Wrong, NamedGuest, NamedEndpoint, Start, Request, AccessBy, Reset, Fetch}
+use Rattle.journal_records.specs.declared.Item.the-variants.{Cut, Wrong, NamedGuest, NamedEndpoint, Start, NamedRegion, Request, Probe, AccessBy, Reset, Fetch}
 use Rattle.journal_session.specs.declared.session.Session.{Session}
 use Rattle.journal_records.specs.Items.{front, sizeOf, requestBytes}
-use Rattle.journal_session.specs.Naming.{guestNamed, endpointNamed, rangesNamed}
+use Rattle.journal_session.specs.Naming.{guestNamed, endpointNamed, regionTaken, regionNamed, rangesNamed}
 
 -- the bytes that the lines of one record may take: a fetch's are the most
 abbrev pub recordRoom : ℕ
@@ -74,6 +76,10 @@ guestStep p t s f = done s (naming (withSettings (guestNamed f (p .state .settin
 abbrev pub endpointStep : Session → List ℕ → List ℕ → Endpoint → Guest → RecordStep
 endpointStep p t s e g = done s (naming (endpointNamed e g (p .state))) t []
 
+-- "0x04 region": one region more of an endpoint
+abbrev pub regionStep : Session → List ℕ → List ℕ → Endpoint → Region → RecordStep
+regionStep p t s e q = done s (naming (withRegions (regionNamed (p .state .listed) (p .state .endpoints) (p .state .regions) e q) (p .state))) t []
+
 -- "0x03 start": set-up with what was named; "`S` [..] the number". A refused start is a start.
 abbrev pub startedStep : List ℕ → SetUp → RecordStep
 startedStep s u = done s (running (u .device .state)) (u .device .table) (numberLine letterS (u .answer))
@@ -87,6 +93,13 @@ requestedStep s r = callStep s (λ x. requestLine (x .answer) (x .buffer)) r
 
 abbrev pub requestStep : Session → List ℕ → List ℕ → Guest → RecordStep
 requestStep p t s g = requestedStep s (step (sessionDevice p t) (of-guest g (request (requestBytes s) (replicate statusSize 0))))
+
+-- "0x14": a request; its writable part has room for properties
+abbrev pub probedStep : List ℕ → Reply × Device → RecordStep
+probedStep s r = callStep s (λ x. probeLines (x .answer) (x .buffer)) r
+
+abbrev pub probeStep : Session → List ℕ → List ℕ → Guest → RecordStep
+probeStep p t s g = probedStep s (step (sessionDevice p t) (of-guest g (request (requestBytes s) (replicate probeSize 0))))
 
 -- "0x21": an access
 abbrev pub accessedStep : List ℕ → Reply × Device → RecordStep
@@ -109,14 +122,18 @@ fetchedStep s r = callStep s (λ x. fetchLines (x .answer) (x .buffer)) r
 abbrev pub fetchStep : Session → List ℕ → List ℕ → Guest → ℕ → RecordStep
 fetchStep p t s g n = fetchedStep s (step (sessionDevice p t) (of-guest g (fetch (replicate (faultSize * n) 0))))
 
--- "a fifth guest, a 33rd endpoint, 0x01 or 0x02 after start, a second start, a call before start": each is bad
+-- "a fifth guest, a 33rd endpoint, 0x01 or 0x02 after start, a second start, a call before start", a region "after start, for an
+-- endpoint not yet named or as its fifth region": each is bad
 unfoldable pub stepOf : Session → List ℕ → List ℕ → Item → RecordStep
 stepOf p t s Cut = unread p t false
 stepOf p t s Wrong = unread p t true
 stepOf p t s (NamedGuest f) = allowed (not (p .started) && ltb (p .state .settings .guests) maxGuests) p t (guestStep p t s f)
 stepOf p t s (NamedEndpoint e g) = allowed (not (p .started) && ltb (p .state .listed) maxEndpoints) p t (endpointStep p t s e g)
 stepOf p t s (Start f) = allowed (not (p .started)) p t (startStep p t s f)
+stepOf p t s (NamedRegion e q) =
+    allowed (not (p .started) && regionTaken (p .state .listed) (p .state .endpoints) (p .state .regions) e) p t (regionStep p t s e q)
 stepOf p t s (Request g) = allowed (p .started) p t (requestStep p t s g)
+stepOf p t s (Probe g) = allowed (p .started) p t (probeStep p t s g)
 stepOf p t s (AccessBy x) = allowed (p .started) p t (accessStep p t s x)
 stepOf p t s (Reset g) = allowed (p .started) p t (resetStep p t s g)
 stepOf p t s (Fetch g n) = allowed (p .started) p t (fetchStep p t s g n)

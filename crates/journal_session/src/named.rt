@@ -1,7 +1,7 @@
-// Records that name a guest or an endpoint.
+// Records that name a guest, an endpoint or a region.
 ghost use mathlib.Core.List.{List};
 ghost use Prim.Native.Nat.{ℕ};
-ghost use Rattle.journal_records.specs.declared.Item.the-variants.{NamedGuest, NamedEndpoint};
+ghost use Rattle.journal_records.specs.declared.Item.the-variants.{NamedGuest, NamedEndpoint, NamedRegion};
 ghost use Rattle.journal_session.specs.Steps.{stepOf};
 ghost use Rattle.journal_session.specs.Matching.{Matches};
 use crate::naming;
@@ -12,6 +12,7 @@ use crate::session::StepResult;
 use journal_records::GuestFields;
 use rules::Endpoint;
 use rules::Guest;
+use rules::Region;
 use rules::sizes::MAX_ENDPOINTS;
 use rules::sizes::MAX_GUESTS;
 
@@ -50,5 +51,23 @@ pub fn endpoint(p: Session, s: &[u8], e: Endpoint, g: Guest) -> StepResult
     next.listed = state.listed + 1;
     next.endpoints = endpoints;
     next.owners = owners;
+    consumed(false, next, journal_records::size_of(s), 0)
+}
+
+// A region of an endpoint is named, unless the endpoint is not yet, it is the endpoint's fifth or the journal has started.
+pub fn region(p: Session, s: &[u8], e: Endpoint, q: Region) -> StepResult
+    ensures { λ r. ⌜ ((t out : List ℕ) (k : ℕ) → Matches r t out out k (stepOf p t (now (s .entry)) (NamedRegion e q))) ⌝ }
+{
+    let state = p.state;
+    if p.started {
+        return unread(p, true);
+    }
+    let endpoints = state.endpoints;
+    let mut regions = state.regions;
+    if !naming::name_region(state.listed, &endpoints, &mut regions, e, q) {
+        return unread(p, true);
+    }
+    let mut next = state;
+    next.regions = regions;
     consumed(false, next, journal_records::size_of(s), 0)
 }

@@ -74,6 +74,15 @@ put-none room k line out h = rw h (refl, refl)
 abbrev pub Placed : ℕ → ℕ → List ℕ → List ℕ → ℕ → List ℕ → Type 0
 Placed room k line out n new = (n ≡ k + writtenCount room k line out) × (new ≡ written room k line out)
 
+-- no more bytes are put than there are
+pub written-few : (room k : ℕ) (line out : List ℕ) → writtenCount room k line out ≤ length line
+unfolding writtenCount
+written-few room k line out = go (leb (k + room) (length out))
+  where
+    go : (b : Bool) → cond b (length line) 0 ≤ length line
+    go true = omega arith
+    go false = omega arith
+
 -- the same where there is the room
 pub placed-room : (room k : ℕ) (line out : List ℕ) {n : ℕ} {new : List ℕ} → k + room ≤ length out → Placed room k line out n new → Put k line out n new
 unfolding written writtenCount

@@ -13,7 +13,7 @@ placed k line out = take k out ++ (line ++ drop (k + length line) out)
 abbrev pub decimalRoom : ℕ
 decimalRoom = 21
 
--- the bytes that a line may take: any but a fetch's
+-- the bytes that a line may take: any but one of bytes in hex
 abbrev pub lineRoom : ℕ
 lineRoom = 64
 

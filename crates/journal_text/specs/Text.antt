@@ -34,3 +34,7 @@ address x = hexDigits 16 x
 abbrev pub hexBytes : List ℕ → List ℕ
 hexBytes [] = []
 hexBytes (b ∷ bs) = digit (b / 16) ∷ digit (b % 16) ∷ hexBytes bs
+
+-- a line of bytes in hex
+unfoldable pub hexLine : List ℕ → List ℕ
+hexLine bs = hexBytes bs ++ (newline ∷ [])

@@ -6,6 +6,6 @@ mod text;
 
 pub use decimal::put_decimal;
 pub use hex::address_line;
-pub use hex::hex_of;
+pub use hex::put_hex;
 pub use placing::has_room;
 pub use placing::put_bytes;

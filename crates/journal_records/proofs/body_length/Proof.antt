@@ -5,11 +5,13 @@ use Rattle.journal_records.specs.Items.{bodyLength}
 use Rattle.journal_records.proofs.body_length.Statement.{statement}
 use Rattle.journal_records.proofs.body_length.Tie as tie
 
-rest : tie.Need-returns-10
+rest : tie.Need-returns-12
 unfolding bodyLength
 rest c =
     let r = c .match .rest in (
       rw (
+        ne-eqb _ _ (r .0 .0 .0 .0 .0 .0 .0 .0 .0 .0 .1),
+        ne-eqb _ _ (r .0 .0 .0 .0 .0 .0 .0 .0 .0 .1),
         ne-eqb _ _ (r .0 .0 .0 .0 .0 .0 .0 .0 .1),
         ne-eqb _ _ (r .0 .0 .0 .0 .0 .0 .0 .1),
         ne-eqb _ _ (r .0 .0 .0 .0 .0 .0 .1),
@@ -37,4 +39,6 @@ body-length-spec =
     (λ c. (rw (c .match .keys7), omega arith))
     (λ c. (rw (c .match .keys8), omega arith))
     (λ c. (rw (c .match .keys9), omega arith))
+    (λ c. (rw (c .match .keys10), omega arith))
+    (λ c. (rw (c .match .keys11), omega arith))
     rest)

@@ -28,17 +28,30 @@ start-requires : tie.Need-start-fields-requires
 unfolding bodyLength
 start-requires c κs = let s = c .before .before .before in sized 3 (s .args .s .now) (c .match .keys3) (s .pre .1)
 
+region-endpoint-requires : tie.Need-endpoint-field-requires-2
+unfolding bodyLength
+region-endpoint-requires c κs =
+    let s = c .before .before .before in
+    omega (arith, sized 4 (s .args .s .now) (c .match .keys4) (s .pre .1))
+
+region-requires : tie.Need-region-fields-requires
+unfolding bodyLength
+region-requires c κs =
+    let m = c .before in
+    let s = m .before .before .before in
+    sized 4 (s .args .s .now) (m .match .keys4) (s .pre .1)
+
 access-requires : tie.Need-access-item-requires
 unfolding bodyLength
 access-requires c κs =
     let s = c .before .before .before in
-    (sized 33 (s .args .s .now) (c .match .keys4) (s .pre .1), c .match .keys4)
+    (sized 33 (s .args .s .now) (c .match .keys6) (s .pre .1), c .match .keys6)
 
 fetch-requires : tie.Need-fetch-item-requires
 unfolding bodyLength
 fetch-requires c κs =
     let s = c .before .before .before in
-    (sized 35 (s .args .s .now) (c .match .keys6) (s .pre .1), c .match .keys6)
+    (sized 35 (s .args .s .now) (c .match .keys8) (s .pre .1), c .match .keys8)
 
 guest : tie.Need-returns
 unfolding itemOf
@@ -52,15 +65,25 @@ start : tie.Need-returns-3
 unfolding itemOf
 start c = rw (c .before .match .keys3, c .start-fields .ensures)
 
-reset : tie.Need-returns-5
+region : tie.Need-returns-4
 unfolding itemOf
-reset c = rw (c .before .match .keys5)
+region c = rw (c .before .before .match .keys4, c .before .endpoint-field2 .ensures, c .region-fields .ensures)
 
-request : tie.Need-returns-7
+probe : tie.Need-returns-5
+unfolding itemOf
+probe c = rw (c .before .match .keys5)
+
+reset : tie.Need-returns-7
+unfolding itemOf
+reset c = rw (c .before .match .keys7)
+
+request : tie.Need-returns-9
 unfolding itemOf
 request c =
     let r = c .before .match .rest in
     rw (
+      ne-eqb _ _ (r .0 .0 .0 .0 .0 .0 .0 .1),
+      ne-eqb _ _ (r .0 .0 .0 .0 .0 .0 .1),
       ne-eqb _ _ (r .0 .0 .0 .0 .0 .1),
       ne-eqb _ _ (r .0 .0 .0 .0 .1),
       ne-eqb _ _ (r .0 .0 .0 .1),
@@ -78,6 +101,9 @@ take-item-spec =
     endpoint-requires
     owner-read
     start-requires
+    region-endpoint-requires
+    region-requires
+    (λ c. search needs)
     access-requires
     (λ c. search needs)
     fetch-requires
@@ -85,6 +111,8 @@ take-item-spec =
     guest
     endpoint
     start
+    region
+    probe
     (λ c. search needs)
     reset
     (λ c. search needs)

@@ -12,14 +12,20 @@ endpoints-count c = sym (length-take-le _ _ (omega arith))
 owners-count : tie.Need-slice-aggregate-set-up-2
 owners-count c = sym (length-take-le _ _ (omega arith))
 
+regions-count : tie.Need-slice-aggregate-set-up-3
+regions-count c = sym (length-take-le _ _ (omega arith))
+
 pub set-up-listed-spec : {M : Type 1} → statement M
 set-up-listed-spec =
     tie.close
     (tie.spec
     (λ c. search needs)
+    (λ c. search needs)
     endpoints-count
     (λ c. search needs)
     owners-count
+    (λ c. search needs)
+    regions-count
     (λ c κs. search needs)
     (λ c. search needs)
     (λ c. search needs))
