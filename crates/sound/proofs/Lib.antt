@@ -1,3 +1,2 @@
-mod Passed
 mod Verdict
 pub mod Checks

@@ -9,29 +9,31 @@ use lib.Dec.{leb, ltb, eqb}
 use lib.ListN.{length, getD, take}
 use borrow.Author.Tests.{lt-ltb, le-leb, leb-true, eqb-true, eq-eqb}
 use Rattle.laws.specs.Lists.{all?, every?, firstFailing}
-use Rattle.laws.proofs.Tests.{both, both-left, both-right, true-false, same-test, cleared}
+use Rattle.laws.proofs.Tests.{both, both-left, both-right, true-false, same-test, opened, cleared}
 use Rattle.laws.proofs.Filters.{all-imp}
 use Rattle.laws.proofs.Tables.{below-at, below-all}
 use Rattle.laws.proofs.Owners.{owner-among}
 use Rattle.rules.specs.declared.Settings.{Settings}
 use Rattle.rules.specs.declared.Mapping.{Mapping}
-use Rattle.rules.specs.Sizes.{maxGuests, maxEndpoints, maxRecords, recordWords, tableWords}
-use Rattle.rules.specs.Configuration.{share, goodSettings, goodLists, good}
+use Rattle.rules.specs.Sizes.{maxGuests, maxEndpoints, endpointRegionWords, maxRecords, recordWords, tableWords}
+use Rattle.rules.specs.Configuration.{share, listTests, goodSettings, goodLists, goodRegions, good}
 use Rattle.rules.specs.Table.{records, guestOf, domainOf}
 use Rattle.rules.specs.State.{Device, configOf, read}
 use Rattle.rules.specs.Guests.{own, part, recordsOf}
 use Rattle.rules.specs.Requests.{NOENT}
 use Rattle.rules.specs.Handlers.{domainExists, isIn, formSteps}
-use Rattle.rules.specs.Sound.{guest, passes, zeroFrom, recordGood, recordPasses, sharesKept, frameTests, placeTests, logTests, sound}
+use Rattle.rules.specs.Sound.{guest, passes, zeroFrom, recordGood, recordPasses, sharesKept, frameTests, placeTests, logTests, reservedTests, sound}
 use Rattle.rules.proofs.Words.{length-records}
 use Rattle.rules.proofs.Records.{wide}
-use Rattle.rules.proofs.Groups.{Good, good-facts, Framed, frame-facts, frame-tests, Placed, place-tests, Logged, log-tests, Recorded, sound-facts, sound-tests}
+use Rattle.rules.proofs.Groups.{Good, good-facts, Framed, frame-facts, frame-tests, Placed, place-tests, Logged, log-tests, Recorded, reserved-facts, reserved-tests, sound-facts, sound-tests}
 use Rattle.rules.proofs.Parts.{passes-none, form-wide}
 use Rattle.table_record.specs.Records.{noMapping}
 use Rattle.map_steps.specs.Forms.{limits, formGood}
 use Rattle.sound_records.specs.Scan.{ownGood, domainGood, scan, roomTests}
 use Rattle.sound_records.proofs.Room.{room-tests}
 use Rattle.sound_records.proofs.Order.{Scanned, from-scan, to-scan}
+use Rattle.sound_regions.specs.Clear.{regionsGood}
+use Rattle.sound_regions.proofs.Cleared.{reserved-are}
 use Rattle.sound.specs.Assembled.{frameAlone, framed}
 
 -- what does not hold where a test fails that it implies
@@ -45,31 +47,49 @@ granted a b v h e k = sym (e ∙ ap (λ (x : Bool). x && b) h) ∙ k
 
 -- THE FRAME, TEST BY TEST
 
-module _ (s : Settings) (n m : ℕ) (es os ws : List ℕ) where
-  facts : framed s n m es os ws ≡ true → Framed (frameAlone s n m es os ws)
+-- good lists of as many endpoints as are listed
+pub few : (s : Settings) (n : ℕ) (es os : List ℕ) → eqb (length (take n es)) n ≡ true → goodLists s (take n es) (take n os) ≡ true → n ≤ maxEndpoints
+unfolding goodLists
+few s n es os e h = omega (arith, eqb-true (length (take n es)) n e, leb-true (length (take n es)) maxEndpoints (opened (listTests s (take n es) (take n os)) h .1 .0))
+
+module _ (s : Settings) (n m : ℕ) (es os rs ws : List ℕ) where
+  facts : framed s n m es os rs ws ≡ true → Framed (frameAlone s n m es os rs ws)
   unfolding framed
-  facts h = frame-facts (frameAlone s n m es os ws) h
+  facts h = frame-facts (frameAlone s n m es os rs ws) h
 
-  pub words-missing : eqb (length ws) tableWords ≡ false → framed s n m es os ws ≡ false
-  words-missing = unless (eqb (length ws) tableWords) (framed s n m es os ws) (λ h. eq-eqb _ _ (facts h .words))
+  pub words-missing : eqb (length ws) tableWords ≡ false → framed s n m es os rs ws ≡ false
+  words-missing = unless (eqb (length ws) tableWords) (framed s n m es os rs ws) (λ h. eq-eqb _ _ (facts h .words))
 
-  pub live-past : leb m maxRecords ≡ false → framed s n m es os ws ≡ false
-  live-past = unless (leb m maxRecords) (framed s n m es os ws) (λ h. le-leb _ _ (facts h .live))
+  pub live-past : leb m maxRecords ≡ false → framed s n m es os rs ws ≡ false
+  live-past = unless (leb m maxRecords) (framed s n m es os rs ws) (λ h. le-leb _ _ (facts h .live))
 
-  pub endpoints-missing : eqb (length (take n es)) n ≡ false → framed s n m es os ws ≡ false
+  pub endpoints-missing : eqb (length (take n es)) n ≡ false → framed s n m es os rs ws ≡ false
   unfolding configOf
-  endpoints-missing = unless (eqb (length (take n es)) n) (framed s n m es os ws) (λ h. eq-eqb _ _ (facts h .listed))
+  endpoints-missing = unless (eqb (length (take n es)) n) (framed s n m es os rs ws) (λ h. eq-eqb _ _ (facts h .listed))
 
-  pub settings-bad : goodSettings s ≡ false → framed s n m es os ws ≡ false
+  -- the lists and the regions of the configuration
+  abbrev lists : Bool
+  lists = goodLists s (take n es) (take n os)
+
+  abbrev regions : ℕ → Bool
+  regions k = goodRegions k (take (endpointRegionWords * n) rs)
+
+  pub settings-bad : goodSettings s ≡ false → framed s n m es os rs ws ≡ false
   unfolding configOf good
-  settings-bad = unless (goodSettings s) (framed s n m es os ws) (λ h. both-left (goodSettings s) (goodLists s (take n es) (take n os)) (facts h .config))
+  settings-bad = unless (goodSettings s) (framed s n m es os rs ws) (λ h. both-left (goodSettings s) (lists && regions (length (take n es))) (facts h .config))
 
-  pub lists-decide : length ws ≡ tableWords → m ≤ maxRecords → eqb (length (take n es)) n ≡ true → goodSettings s ≡ true → goodLists s (take n es) (take n os) ≡ framed s n m es os ws
+  pub lists-bad : lists ≡ false → framed s n m es os rs ws ≡ false
+  unfolding configOf good
+  lists-bad = unless lists (framed s n m es os rs ws) (λ h. both-left lists _ (both-right (goodSettings s) (lists && regions (length (take n es))) (facts h .config)))
+
+  pub regions-decide : length ws ≡ tableWords → m ≤ maxRecords → eqb (length (take n es)) n ≡ true → goodSettings s ≡ true → lists ≡ true → regions n ≡ framed s n m es os rs ws
   unfolding framed configOf good
-  lists-decide w l e g =
-      same-test (goodLists s (take n es) (take n os)) (framed s n m es os ws)
-      (λ h. frame-tests (frameAlone s n m es os ws) (record { words = w; config = both (goodSettings s) _ g h; listed = eqb-true _ _ e; live = l }))
-      (λ h. both-right (goodSettings s) (goodLists s (take n es) (take n os)) (facts h .config))
+  regions-decide w l e g k =
+      same-test (regions n) (framed s n m es os rs ws)
+      (λ h.
+      frame-tests (frameAlone s n m es os rs ws)
+      (record { words = w; config = both (goodSettings s) _ g (both lists _ k (rw (eqb-true (length (take n es)) n e) h)); listed = eqb-true _ _ e; live = l }))
+      (λ h. rw (eqb-true (length (take n es)) n e) at (both-right lists (regions (length (take n es))) (both-right (goodSettings s) (lists && regions (length (take n es))) (facts h .config))))
 
 -- WHAT THE FRAME GRANTS TO THE TESTS AFTER IT
 
@@ -179,25 +199,32 @@ module _ (d : Device) (f : Framed d) where
   unfolding read
   shares-kept r = below-all (d .state .settings .guests) _ (λ g k. le-leb _ _ (r .shares g k))
 
-  -- where the other tests pass, one pass over the records decides
-  pub decided : Placed (d .state) → Logged (d .state) → zeroFrom (recordWords * d .state .live) (d .table) ≡ true
-      → sound d ≡ (scan form domain true noMapping live && sharesKept (d .state .settings) live)
-  decided p l z =
-      same-test (sound d) (scan form domain true noMapping live && sharesKept (d .state .settings) live)
+  formed : (r : Mapping) → form r ≡ true → wide r ≡ true
+  formed = filled (d .state .settings)
+
+  keyed-here : (r s : Mapping) → r .key ≡ s .key → domain r ≡ true → domain s ≡ true
+  keyed-here = keyed (d .state .listed) (d .state .owners) (d .state .attached) (d .state .domains)
+
+  -- what the pass over the records says, and what soundness asks of them
+  abbrev pub records-pass : Bool
+  records-pass = scan form domain true noMapping live && sharesKept (d .state .settings) live
+
+  pub records-fail : records-pass ≡ false → sound d ≡ false
+  records-fail =
+      unless records-pass (sound d)
       (λ h.
       let r = sound-facts d h .records in
       both (scan form domain true noMapping live) _ (to-scan form domain formed keyed-here live (scanned r)) (shares-kept r))
-      (λ h.
-      sound-tests d
-      (record {
-        frame = f;
-        places = p;
-        logs = l;
-        records = recorded z (from-scan form domain formed keyed-here live (both-left (scan form domain true noMapping live) _ h)) (both-right (scan form domain true noMapping live) _ h);
-      }))
-    where
-      formed : (r : Mapping) → form r ≡ true → wide r ≡ true
-      formed = filled (d .state .settings)
 
-      keyed-here : (r s : Mapping) → r .key ≡ s .key → domain r ≡ true → domain s ≡ true
-      keyed-here = keyed (d .state .listed) (d .state .owners) (d .state .attached) (d .state .domains)
+  records-hold : zeroFrom (recordWords * d .state .live) (d .table) ≡ true → records-pass ≡ true → Recorded d
+  records-hold z h =
+      recorded z (from-scan form domain formed keyed-here live (both-left (scan form domain true noMapping live) _ h)) (both-right (scan form domain true noMapping live) _ h)
+
+  -- where the other tests pass, those of the reserved regions decide
+  pub decided : Placed (d .state) → Logged (d .state) → zeroFrom (recordWords * d .state .live) (d .table) ≡ true → records-pass ≡ true
+      → regionsGood (d .state .listed) (d .state .live) (d .state .owners) (d .state .attached) (d .state .domains) (d .state .regions) (d .table) ≡ sound d
+  decided p l z h =
+      reserved-are d f p
+      ∙ same-test (every? (reservedTests d)) (sound d)
+      (λ k. sound-tests d (record { frame = f; places = p; logs = l; records = records-hold z h; reserved = reserved-facts d k }))
+      (λ k. reserved-tests d (sound-facts d k .reserved))

@@ -12,6 +12,7 @@ use rules::Settings;
 use rules::sizes::FAULT_PLACES;
 use rules::sizes::MAX_ENDPOINTS;
 use rules::sizes::MAX_GUESTS;
+use rules::sizes::REGION_PLACES;
 
 // What the test before a guest's job gives: the job may be worked, or is refused.
 pub enum Checked {
@@ -29,6 +30,7 @@ pub fn check_job<'a>(
     owners: &'a [u8; MAX_ENDPOINTS],
     attached: &'a [u8; MAX_ENDPOINTS],
     domains: &'a [u32; MAX_ENDPOINTS],
+    regions: &'a [u64; REGION_PLACES],
     logged: &'a [usize; MAX_GUESTS],
     lost: &'a [u32; MAX_GUESTS],
     reasons: &'a [u8; FAULT_PLACES],
@@ -38,8 +40,8 @@ pub fn check_job<'a>(
     t: &'a [u64],
     g: Guest,
 ) -> Checked
-    ensures { λ r. ⌜ r ≡ jobChecked (deviceWith settings listed live (now (endpoints .entry)) (now (owners .entry)) (now (attached .entry)) (now (domains .entry)) (now (logged .entry)) (now (lost .entry)) (now (reasons .entry)) (now (flags .entry)) (now (sources .entry)) (now (addresses .entry)) (now (t .entry))) g ⌝ }
-    ensures { λ r. ⌜ (r ≡ Passed → Lengths (stateWith settings listed live (now (endpoints .entry)) (now (owners .entry)) (now (attached .entry)) (now (domains .entry)) (now (logged .entry)) (now (lost .entry)) (now (reasons .entry)) (now (flags .entry)) (now (sources .entry)) (now (addresses .entry)))) ⌝ }
+    ensures { λ r. ⌜ r ≡ jobChecked (deviceWith settings listed live (now (endpoints .entry)) (now (owners .entry)) (now (attached .entry)) (now (domains .entry)) (now (regions .entry)) (now (logged .entry)) (now (lost .entry)) (now (reasons .entry)) (now (flags .entry)) (now (sources .entry)) (now (addresses .entry)) (now (t .entry))) g ⌝ }
+    ensures { λ r. ⌜ (r ≡ Passed → Lengths (stateWith settings listed live (now (endpoints .entry)) (now (owners .entry)) (now (attached .entry)) (now (domains .entry)) (now (regions .entry)) (now (logged .entry)) (now (lost .entry)) (now (reasons .entry)) (now (flags .entry)) (now (sources .entry)) (now (addresses .entry)))) ⌝ }
 {
     if settings.guests <= (g.0 as usize) {
         return Checked::Refused(Refusal::NoSuchGuest);
@@ -52,6 +54,7 @@ pub fn check_job<'a>(
         owners,
         attached,
         domains,
+        regions,
         logged,
         lost,
         reasons,

@@ -21,7 +21,8 @@ lasts-fit c i =
 
 returns : tie.Need-returns
 returns c =
-    let c10 = c .before .before in
+    let c11 = c .before .before in
+    let c10 = c11 .before in
     let c9 = c10 .before in
     let c8 = c9 .before in
     let c7 = c8 .before in
@@ -43,12 +44,13 @@ returns c =
           owners = c2 .show-lengths-arg2 .given .0;
           attached = c3 .show-lengths-arg3 .given .0;
           domains = c4 .show-lengths-arg4 .given .0;
-          logged = c5 .show-lengths-arg5 .given .0;
-          lost = c6 .show-lengths-arg6 .given .0;
-          reasons = c7 .show-lengths-arg7 .given .0;
-          flags = c8 .show-lengths-arg8 .given .0;
-          sources = c9 .show-lengths-arg9 .given .0;
-          addresses = c10 .show-lengths-arg10 .given .0;
+          regions = c5 .show-lengths-arg5 .given .0;
+          logged = c6 .show-lengths-arg6 .given .0;
+          lost = c7 .show-lengths-arg7 .given .0;
+          reasons = c8 .show-lengths-arg8 .given .0;
+          flags = c9 .show-lengths-arg9 .given .0;
+          sources = c10 .show-lengths-arg10 .given .0;
+          addresses = c11 .show-lengths-arg11 .given .0;
         },
         lasts-fit start,
       ),

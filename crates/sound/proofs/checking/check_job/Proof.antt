@@ -15,7 +15,7 @@ use Rattle.sound.proofs.checking.check_job.Tie as tie
 abbrev device : tie.Start → Device
 device c =
     let a = c .args in
-    deviceWith (a .settings) (a .listed) (a .live) (a .endpoints .now) (a .owners .now) (a .attached .now) (a .domains .now) (a .logged .now) (a .lost .now) (a .reasons .now) (a .flags .now) (a .sources .now)
+    deviceWith (a .settings) (a .listed) (a .live) (a .endpoints .now) (a .owners .now) (a .attached .now) (a .domains .now) (a .regions .now) (a .logged .now) (a .lost .now) (a .reasons .now) (a .flags .now) (a .sources .now)
     (a .addresses .now) (a .t .now)
 
 -- a job that is refused is not passed

@@ -1,4 +1,4 @@
--- `sound::zeros::zero_from` meets its contract. Assumes nothing.
+-- `sound_zeros::zero_from` meets its contract. Assumes nothing.
 use native.Mathlib.Omega.{arith}
 use borrow.Author.Needs.{needs}
 use Prim.Native.Nat.{_-_}
@@ -8,9 +8,9 @@ use lib.Dec.{eqb}
 use lib.ListN.{length, drop}
 use Rattle.laws.specs.Lists.{all?}
 use Rattle.rules.specs.Sound.{zeroFrom}
-use Rattle.sound.proofs.Passed.{zeros-on, zeros-end}
-use Rattle.sound.proofs.zeros.zero_from.Statement.{statement}
-use Rattle.sound.proofs.zeros.zero_from.Tie as tie
+use Rattle.sound_zeros.proofs.Passed.{zeros-on, zeros-end}
+use Rattle.sound_zeros.proofs.zero_from.Statement.{statement}
+use Rattle.sound_zeros.proofs.zero_from.Tie as tie
 
 abbrev Inv-loop : tie.InvT-loop
 Inv-loop x n bits₀ i₀ i-end bits i = all? (eqb 0) (drop n x) ≡ (eqb bits 0 && all? (eqb 0) (drop i x))

@@ -1,0 +1,212 @@
+-- What soundness asks of the reserved regions record by record is what the code tests endpoint by endpoint.
+use Prim.Native.Nat.{ℕ, _+_, _*_, _≤_, _<_}
+use mathlib.Core.Path.{_≡_, refl, sym, ap, _∙_}
+use mathlib.Core.Bool.{Bool, true, false, cond, not, _&&_, _||_, and-true}
+use mathlib.Core.List.{List, [], _∷_}
+use mathlib.Core.Logic.{_⊎_, inl, inr}
+use mathlib.Core.Option.{some, none}
+use native.Mathlib.Omega.{arith}
+use lib.Dec.{ltb, eqb}
+use lib.ListN.{length, getD, take}
+use lib.Seq.{getD-take}
+use borrow.Author.Tests.{ltb-false, eqb-true, eq-eqb, le-leb, not-true}
+use Rattle.laws.specs.Lists.{all?, any?, every?, below, pickBy, tab}
+use Rattle.laws.proofs.Tests.{both, both-left, both-right, true-false, or-cases, nor, and-not, same-test}
+use Rattle.laws.proofs.Filters.{all-imp, none-passes}
+use Rattle.laws.proofs.Tables.{below-at, below-all, length-tab, getD-tab}
+use Rattle.rules.specs.declared.Region.{Region}
+use Rattle.rules.specs.declared.Mapping.{Mapping}
+use Rattle.rules.specs.Sizes.{maxEndpoints, maxRegions, endpointRegionWords, domainSpan}
+use Rattle.rules.specs.Configuration.{regionCount, regionsAt, meets}
+use Rattle.rules.specs.Table.{records, guestOf, domainOf}
+use Rattle.rules.specs.State.{Attachment, Device, attachment, attachmentAt, configOf, read}
+use Rattle.rules.specs.Guests.{own, part}
+use Rattle.rules.specs.Handlers.{outside, isIn, ofKey, regionsIn, onRegion}
+use Rattle.rules.specs.Sound.{attachmentGood, offRegions, recordClear, regionZeros, reservedTests}
+use Rattle.rules.proofs.Groups.{Good, good-facts, Framed, Placed}
+use Rattle.rules.proofs.Regions.{regions-agree, region-count}
+use Rattle.state_regions.specs.Held.{heldRegions}
+use Rattle.state_regions.proofs.Regions.{held-is}
+use Rattle.table_reserved.specs.Reserved.{regionsMet}
+use Rattle.sound_regions.specs.Clear.{keyAt, endpointClear, regionsGood}
+use Rattle.sound_regions.proofs.Within.{some-in, none-in, met-by-record}
+
+-- none passes, where each fails
+fails-all : {A : Type 0} (q : A → Bool) (l : List A) → all? (λ x. not (q x)) l ≡ true → any? q l ≡ false
+fails-all q [] h = refl
+fails-all q (x ∷ l) h = go (q x) h (λ k. fails-all q l k)
+  where
+    go : (b : Bool) → (not b && all? (λ y. not (q y)) l) ≡ true → (all? (λ y. not (q y)) l ≡ true → any? q l ≡ false) → (b || any? q l) ≡ false
+    go true h i = true-false true refl (sym h)
+    go false h i = i h
+
+-- an endpoint is in a domain by its attached flag and the domain beside it
+in-domain : (flag n m : ℕ) → isIn (record { 0 = m }) (attachment flag n) ≡ (eqb flag 1 && eqb n m)
+unfolding isIn
+in-domain flag n m = go (eqb flag 1)
+  where
+    go : (b : Bool) → isIn (record { 0 = m }) (cond b (some (record { 0 = n })) none) ≡ (b && eqb n m)
+    go true = refl
+    go false = refl
+
+-- a key is that of a record by guest and by domain
+key-is : (g n : ℕ) (r : Mapping) → n < domainSpan → ofKey (g * domainSpan + n) r ≡ (eqb g (guestOf r) && eqb n (domainOf r .0))
+unfolding ofKey
+key-is g n r h =
+    same-test (eqb (r .key) (g * domainSpan + n)) (eqb g (guestOf r) && eqb n (domainOf r .0))
+    (λ e. let k : r .key ≡ g * domainSpan + n = eqb-true _ _ e in both (eqb g (guestOf r)) (eqb n (domainOf r .0)) (eq-eqb g (guestOf r) (omega arith)) (eq-eqb n (domainOf r .0) (omega arith)))
+    (λ e.
+    let a : g ≡ guestOf r = eqb-true _ _ (both-left (eqb g (guestOf r)) _ e) in
+    let b : n ≡ domainOf r .0 = eqb-true _ _ (both-right (eqb g (guestOf r)) _ e) in
+    eq-eqb (r .key) (g * domainSpan + n) (omega arith))
+
+module _ (d : Device) (f : Framed d) (p : Placed (d .state)) where
+  abbrev n : ℕ
+  n = d .state .listed
+
+  abbrev owners : List ℕ
+  owners = d .state .owners
+
+  abbrev attached : List ℕ
+  attached = d .state .attached
+
+  abbrev domains : List ℕ
+  domains = d .state .domains
+
+  abbrev live : List Mapping
+  live = take (d .state .live) (records (d .table))
+
+  configured : Good (configOf (d .state))
+  configured = good-facts (configOf (d .state)) (f .config)
+
+  few : n ≤ maxEndpoints
+  few = omega (arith, f .listed, configured .few)
+
+  length-owners : length (take n owners) ≡ n
+  unfolding configOf
+  length-owners = sym (configured .sizes) ∙ f .listed
+
+  -- an endpoint's domain has 32 bits
+  narrow-at : (i : ℕ) → i < n → getD domains i 0 < domainSpan
+  unfolding configOf attachmentGood outside
+  narrow-at i h = go (or-cases (eqb (getD attached i 0) 1 && not (ltb k low || ltb high k)) (eqb (getD attached i 0) 0 && eqb k 0) (p .attachments i h))
+    where
+      k : ℕ
+      k = getD domains i 0
+
+      low : ℕ
+      low = d .state .settings .domains .start
+
+      high : ℕ
+      high = d .state .settings .domains .end
+
+      go : ((eqb (getD attached i 0) 1 && not (ltb k low || ltb high k)) ≡ true) ⊎ ((eqb (getD attached i 0) 0 && eqb k 0) ≡ true) → k < domainSpan
+      go (inl a) = omega (arith, ltb-false high k (nor (ltb k low) (ltb high k) (not-true _ (both-right (eqb (getD attached i 0) 1) _ a)) .1), configured .narrow)
+      go (inr a) = omega (arith, eqb-true k 0 (both-right (eqb (getD attached i 0) 0) _ a))
+
+  -- its regions, off the state's words and off the configuration's
+  regions-here : (i : ℕ) → i < n → regionsAt (configOf (d .state) .regions) i ≡ heldRegions (d .state .regions) i
+  unfolding configOf
+  regions-here i h = regions-agree (take (endpointRegionWords * n) words) words i at-most (λ k l m. getD-take (endpointRegionWords * n) words _ 0 (omega arith)) ∙ sym (held-is words i (omega (arith, few)) at-most)
+    where
+      words : List ℕ
+      words = d .state .regions
+
+      at-most : regionCount words i ≤ maxRegions
+      at-most = rw (getD-take (endpointRegionWords * n) words (endpointRegionWords * i) 0 (omega arith)) at (region-count (take (endpointRegionWords * n) words) i (configured .regions i (rw (f .listed) h)))
+
+  -- the record is of the domain beside the endpoint's flag, and on one of its regions
+  abbrev bars : ℕ → Mapping → Bool
+  bars i r = ofKey (keyAt owners domains i) r && onRegion (heldRegions (d .state .regions) i) r
+
+  -- ONE RECORD
+
+  module _ (r : Mapping) where
+    abbrev q : Region → Bool
+    q = meets (r .start) (r .end)
+
+    -- the owners, the attachments and the regions that its guest's are picked from
+    abbrev os : List ℕ
+    os = take n owners
+
+    abbrev ats : List Attachment
+    ats = tab n (attachmentAt (d .state))
+
+    abbrev rs : List (List Region)
+    rs = tab (length (take n (d .state .endpoints))) (regionsAt (take (endpointRegionWords * n) (d .state .regions)))
+
+    length-regions : length rs ≡ n
+    unfolding configOf
+    length-regions = length-tab (length (take n (d .state .endpoints))) _ ∙ f .listed
+
+    region-at : (i : ℕ) → i < n → getD rs i [] ≡ heldRegions (d .state .regions) i
+    unfolding configOf
+    region-at i h = getD-tab (length (take n (d .state .endpoints))) _ i [] (rw (f .listed) h) ∙ regions-here i h
+
+    attachment-at : (i : ℕ) → i < n → isIn (domainOf r) (getD ats i none) ≡ (eqb (getD attached i 0) 1 && eqb (getD domains i 0) (domainOf r .0))
+    attachment-at i h = ap (isIn (domainOf r)) (getD-tab n (attachmentAt (d .state)) i none h) ∙ in-domain (getD attached i 0) (getD domains i 0) (domainOf r .0)
+
+    owner-at : (i : ℕ) → i < n → getD os i 0 ≡ getD owners i 0
+    owner-at i h = getD-take n owners i 0 h
+
+    -- off the regions of the endpoints in its domain
+    off : recordClear (configOf (d .state)) (read d) r ≡ true → (i : ℕ) → i < n → eqb (getD attached i 0) 1 ≡ true → bars i r ≡ false
+    unfolding offRegions onRegion own part read configOf
+    off c i h e = go (bars i r) refl
+      where
+        go : (b : Bool) → bars i r ≡ b → b ≡ false
+        go true m =
+            let k = key-is (getD owners i 0) (getD domains i 0) r (narrow-at i h) in
+            let t = sym k ∙ both-left (ofKey (keyAt owners domains i) r) _ m in
+            true-false (any? q (regionsIn (domainOf r) (pickBy (guestOf r) os ats) (pickBy (guestOf r) os rs)))
+            (some-in q (domainOf r) (guestOf r) os ats rs i (rw length-owners h) (rw (length-tab n (attachmentAt (d .state))) h) (rw length-regions h)
+            (rw (owner-at i h) (both-left (eqb (getD owners i 0) (guestOf r)) _ t))
+            (attachment-at i h ∙ both (eqb (getD attached i 0) 1) _ e (both-right (eqb (getD owners i 0) (guestOf r)) _ t))
+            (rw (region-at i h) (both-right (ofKey (keyAt owners domains i) r) _ m)))
+            (not-true _ c)
+        go false m = refl
+
+    on : ((i : ℕ) → i < n → eqb (getD attached i 0) 1 ≡ true → bars i r ≡ false) → recordClear (configOf (d .state)) (read d) r ≡ true
+    unfolding offRegions onRegion own part read configOf
+    on c =
+        ap not
+        (none-in q (domainOf r) (guestOf r) os ats rs (length-tab n (attachmentAt (d .state)) ∙ sym length-regions)
+        (λ i k h o a. here i (rw length-owners at k) o a))
+      where
+        here : (i : ℕ) → i < n → eqb (getD os i 0) (guestOf r) ≡ true → isIn (domainOf r) (getD ats i none) ≡ true → any? q (getD rs i []) ≡ false
+        here i h o a =
+            let t = sym (attachment-at i h) ∙ a in
+            let k = key-is (getD owners i 0) (getD domains i 0) r (narrow-at i h) in
+            rw (region-at i h)
+            (and-not (ofKey (keyAt owners domains i) r) _ (c i h (both-left (eqb (getD attached i 0) 1) _ t))
+            (k ∙ both (eqb (getD owners i 0) (guestOf r)) _ (rw (owner-at i h) at o) (both-right (eqb (getD attached i 0) 1) _ t)))
+
+  -- ALL RECORDS
+
+  clear-all : (l : List Mapping) → ((i : ℕ) → i < n → eqb (getD attached i 0) 1 ≡ true → all? (λ r. not (bars i r)) l ≡ true)
+      → all? (recordClear (configOf (d .state)) (read d)) l ≡ true
+  clear-all [] h = refl
+  clear-all (r ∷ l) h =
+      both (recordClear (configOf (d .state)) (read d) r) _
+      (on r (λ i k e. not-true _ (both-left (not (bars i r)) _ (h i k e))))
+      (clear-all l (λ i k e. both-right (not (bars i r)) _ (h i k e)))
+
+  by-endpoint : all? (recordClear (configOf (d .state)) (read d)) live ≡ below n (endpointClear live owners attached domains (d .state .regions))
+  by-endpoint =
+      same-test (all? (recordClear (configOf (d .state)) (read d)) live) (below n (endpointClear live owners attached domains (d .state .regions)))
+      (λ c. below-all n _ (λ i h. clear i (eqb (getD attached i 0) 1) refl (λ e. fails-all (bars i) live (all-imp (recordClear (configOf (d .state)) (read d)) (λ r. not (bars i r)) live (λ r k. rw (off r k i h e)) c))))
+      (λ c. clear-all live (λ i h e. none-passes (bars i) live (met i e (below-at n (endpointClear live owners attached domains (d .state .regions)) i c h))))
+    where
+      clear : (i : ℕ) (b : Bool) → eqb (getD attached i 0) 1 ≡ b → (b ≡ true → any? (bars i) live ≡ false) → (not b || not (regionsMet (keyAt owners domains i) live (heldRegions (d .state .regions) i))) ≡ true
+      clear i true e m = rw (met-by-record (keyAt owners domains i) live (heldRegions (d .state .regions) i), m refl)
+      clear i false e m = refl
+
+      met : (i : ℕ) → eqb (getD attached i 0) 1 ≡ true → endpointClear live owners attached domains (d .state .regions) i ≡ true → any? (bars i) live ≡ false
+      met i e c = sym (met-by-record (keyAt owners domains i) live (heldRegions (d .state .regions) i)) ∙ not-true _ (rw e at c)
+
+  -- the code's test is that of soundness
+  pub reserved-are : regionsGood n (d .state .live) owners attached domains (d .state .regions) (d .table) ≡ every? (reservedTests d)
+  unfolding regionsGood read
+  reserved-are =
+      rw (le-leb n maxEndpoints few)
+      (ap (λ (b : Bool). every? (regionZeros (d .state)) && b) (sym (and-true (all? (recordClear (configOf (d .state)) (read d)) live) ∙ by-endpoint)))

@@ -1,0 +1,3 @@
+mod Rest
+mod Within
+pub mod Cleared
