@@ -2,14 +2,27 @@
 mod search;
 
 ghost use mathlib.Core.Path.{_≡_};
+ghost use mathlib.Core.Bool.{_&&_};
+ghost use lib.Dec.{ltb, eqb};
 ghost use lib.ListN.{getD, set};
 ghost use Rattle.rules.specs.declared.State.{State};
 ghost use Rattle.state_fields.specs.Fields.{withAttached};
 ghost use Rattle.state_endpoints.specs.Changes.{attachAt};
 use rules::Domain;
+use rules::Guest;
 use rules::sizes::MAX_ENDPOINTS;
 pub use search::domain_exists;
 pub use search::index_of;
+
+// Whether the endpoint at place i is among the first n and guest g's.
+pub fn owned_at(n: usize, owners: &[u8], g: Guest, i: usize) -> bool
+    ensures { λ r. ⌜ r ≡ ltb i n && eqb (getD (now (owners .entry)) i 0) (g .0) ⌝ }
+{
+    if owners.len() <= i {
+        return (i < n) & (0 == g.0);
+    }
+    (i < n) & (owners[i] == g.0)
+}
 
 // The attached flag at place i; 0 where there is no such place.
 pub fn flag_at(flags: &[u8], i: usize) -> u8

@@ -1,0 +1,11 @@
+-- `state_endpoints::owned_at` meets its contract. Assumes nothing.
+use borrow.Author.Needs.{needs}
+use lib.ListN.{List·getD-eq-default}
+use Rattle.state_endpoints.proofs.owned_at.Statement.{statement}
+use Rattle.state_endpoints.proofs.owned_at.Tie as tie
+
+returns : tie.Need-returns
+returns c = rw (List·getD-eq-default (c .before .before .args .owners .now) 0 (c .before .if1 .taken))
+
+pub owned-at-spec : {M : Type 1} → statement M
+owned-at-spec = tie.close (tie.spec returns (λ c. search needs) (λ c. search needs))
