@@ -30,6 +30,7 @@ pub fn access(s: State, t: &[u64], a: Access) -> CallResult
         &s.owners,
         &s.attached,
         &s.domains,
+        &s.regions,
         &s.logged,
         &s.lost,
         &s.reasons,

@@ -64,6 +64,7 @@ pub fn fetch(s: State, t: &[u64], g: Guest, buffer: &mut [u8]) -> CallResult
         &s.owners,
         &s.attached,
         &s.domains,
+        &s.regions,
         &s.logged,
         &s.lost,
         &s.reasons,

@@ -74,6 +74,7 @@ pub fn reset(s: State, t: &mut [u64], g: Guest) -> CallResult
         &s.owners,
         &s.attached,
         &s.domains,
+        &s.regions,
         &s.logged,
         &s.lost,
         &s.reasons,

@@ -14,7 +14,7 @@ use Rattle.call_access.proofs.access.Statement.{statement}
 use Rattle.call_access.proofs.access.Tie as tie
 
 abbrev start : tie.After-is-sound → tie.Start
-start c = c .before .before .before .before .before .before .before .before .before .before .before .before .before .before
+start c = c .before .before .before .before .before .before .before .before .before .before .before .before .before .before .before
 
 -- where the test has passed, whoever has the answer has the step
 works : (c : tie.Else1) (x : Answer) → (let a = start (c .before) .args in x ≡ translate (device (a .t1) (a .t .now)) (a .a) → (r : State) → r ≡ afterAccess (a .t1) (a .a) x → (record { answer = x; buffer = [] }, device r (a .t .now)) ≡ step (device (a .t1) (a .t .now)) (access-by (a .a)))

@@ -10,7 +10,7 @@ use Rattle.call_fetch.proofs.fetch.Statement.{statement}
 use Rattle.call_fetch.proofs.fetch.Tie as tie
 
 abbrev start : tie.After-check-job → tie.Start
-start c = c .before .before .before .before .before .before .before .before .before .before .before .before .before .before .before
+start c = c .before .before .before .before .before .before .before .before .before .before .before .before .before .before .before .before
 
 returns : tie.Need-returns
 returns c =

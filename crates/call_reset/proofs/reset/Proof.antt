@@ -19,7 +19,7 @@ use Rattle.call_reset.proofs.reset.Statement.{statement}
 use Rattle.call_reset.proofs.reset.Tie as tie
 
 abbrev start : tie.After-check-job → tie.Start
-start c = c .before .before .before .before .before .before .before .before .before .before .before .before .before .before .before
+start c = c .before .before .before .before .before .before .before .before .before .before .before .before .before .before .before .before
 
 -- the answer, the logs, and the rest of the device that a reset leaves are together the device's step
 reset-works : (s : State) (ws : List ℕ) (g : Guest) → sound (device s ws) ≡ true → Lengths s → (x : Answer) (t r : State) (vs : List ℕ)
