@@ -1,5 +1,5 @@
 -- The properties of regions, put into a buffer one after another.
-use Prim.Native.Nat.{ℕ, suc, _+_, _-_, _*_, _≤_, _<_, min}
+use Prim.Native.Nat.{ℕ, _+_, _-_, _*_, _≤_, _<_, min}
 use mathlib.Core.Path.{_≡_, refl, sym, ap, _∙_}
 use mathlib.Core.Bool.{Bool, true, false, cond}
 use mathlib.Core.List.{List, [], _∷_, _++_, append-nil, append-assoc}
@@ -10,18 +10,19 @@ use lib.ListN.{length, getD, take, drop, replicate, length-append, length-drop, 
 use lib.Seq.{take-suc, take-at, take-all, length-take-le, drop-append-add, drop-drop, getD-append-add, getD-drop}
 use borrow.Author.Tests.{eq-eqb, ltb-true, ltb-false}
 use borrow.Rule.Slice.PartMut.{midOf, putMid, post-is, mid-len}
-use Rattle.laws.specs.Lists.{tab, pad}
-use Rattle.laws.proofs.Tables.{length-tab, tab-is}
+use Rattle.laws.specs.Lists.{pad}
+use Rattle.laws.proofs.Tables.{tab-is}
 use Rattle.rules.specs.declared.Region.{Region}
 use Rattle.rules.specs.declared.Guest.{Guest}
 use Rattle.rules.specs.declared.Endpoint.{Endpoint}
 use Rattle.rules.specs.declared.State.{State}
-use Rattle.rules.specs.Configuration.{regionCount, regionAt}
+use Rattle.rules.specs.Configuration.{regionCount}
 use Rattle.rules.specs.Sizes.{maxEndpoints, maxRegions}
 use Rattle.rules.specs.Requests.{OK, NOENT}
 use Rattle.wire_properties.specs.Properties.{propertyPut, propertiesPut}
 use Rattle.wire_properties.proofs.Laws.{length-property}
 use Rattle.state_regions.specs.Held.{heldCount, heldRegions}
+use Rattle.state_regions.proofs.Regions.{length-held}
 use Rattle.refinement.specs.Flat.{endpointIndex, ownedAt, probeBytes}
 use Rattle.call_probe.specs.Probed.{Probed}
 
@@ -32,10 +33,6 @@ held-few w i = go (ltb i maxEndpoints)
     go : (b : Bool) → cond b (min (regionCount w i) maxRegions) 0 ≤ 4
     go true = omega arith
     go false = omega arith
-
-pub length-held : (w : List ℕ) (i : ℕ) → length (heldRegions w i) ≡ heldCount w i
-unfolding heldRegions
-length-held w i = length-tab (heldCount w i) (regionAt w i)
 
 -- the properties of the first j regions, and then the bytes that were there
 abbrev pub written : List Region → ℕ → List ℕ → List ℕ
