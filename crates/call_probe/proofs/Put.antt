@@ -68,8 +68,8 @@ module _ (l : List Region) (d : List ℕ) where
   pub written-all : (j : ℕ) (b : List ℕ) → b ≡ written l j d → length l ≡ j → b ≡ propertiesPut l ++ drop (24 * j) d
   written-all j b e h = e ∙ rw (take-all j l (omega arith))
 
--- zeros after the properties of four regions at most are what is left over
-pub padded : (l : List ℕ) (n : ℕ) → length l ≤ n → l ++ drop (length l) (replicate n 0) ≡ pad n 0 l
+-- a list with the rest of n zeros after it
+padded : (l : List ℕ) (n : ℕ) → length l ≤ n → l ++ drop (length l) (replicate n 0) ≡ pad n 0 l
 padded l n h = sym (tab-is n (λ i. getD l i 0) (l ++ drop (length l) (replicate n 0)) 0 sized (λ i k. go i k (ltb i (length l)) refl))
   where
     sized : length (l ++ drop (length l) (replicate {A = ℕ} n 0)) ≡ n
@@ -84,6 +84,7 @@ padded l n h = sym (tab-is n (λ i. getD l i 0) (l ++ drop (length l) (replicate
         ∙ sym (ap (λ (x : ℕ). getD (l ++ drop (length l) (replicate n 0)) x 0) e ∙ getD-append-add l (drop (length l) (replicate n 0)) (i - length l) 0
         ∙ getD-drop (length l) (replicate n 0) (i - length l) 0 ∙ getD-replicate n (length l + (i - length l)) 0 0 (omega arith))
 
+-- an endpoint's properties, and then zeros for what is left over
 pub padded-properties : (w : List ℕ) (i : ℕ) → propertiesPut (heldRegions w i) ++ drop (24 * heldCount w i) (replicate 128 0) ≡ pad 128 0 (propertiesPut (heldRegions w i))
 padded-properties w i =
     let e : length (propertiesPut (heldRegions w i)) ≡ 24 * heldCount w i = length-properties (heldRegions w i) ∙ rw (length-held w i) in

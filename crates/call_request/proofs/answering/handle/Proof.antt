@@ -12,7 +12,7 @@ use Rattle.call_request.proofs.Written.{none-before}
 use Rattle.call_request.proofs.answering.handle.Statement.{statement}
 use Rattle.call_request.proofs.answering.handle.Tie as tie
 
--- the device that is lent, and what was lent of it
+-- the device that is lent
 abbrev here : tie.Start → State → Device
 here c s =
     let a = c .args in
