@@ -9,7 +9,6 @@ use crate::moving::move_to;
 use crate::steps::is_barred;
 use crate::steps::is_in;
 use crate::steps::is_outside;
-use crate::steps::owned_at;
 use refinement::HandlerResult;
 use rules::Domain;
 use rules::Endpoint;
@@ -59,7 +58,7 @@ fn attach_status<'a>(
 ) -> u8
     ensures { λ r. ⌜ ((s : State) → r ≡ attachStatus (device (withRegions (now (regions .entry)) (withSettings settings (withEndpoints listed (s .endpoints) (now (owners .entry)) (now (attached .entry)) (now (domains .entry)) live s))) (now (t .entry))) g d i reserved) ⌝ }
 {
-    let owned = owned_at(listed, owners, g, i);
+    let owned = state_endpoints::owned_at(listed, owners, g, i);
     let beyond = is_outside(settings.domains, d);
     let there = is_in(attached, domains, i, d);
     let barred = is_barred(there, live, regions, t, g, d, i);

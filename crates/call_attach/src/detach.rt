@@ -7,7 +7,6 @@ ghost use Rattle.refinement.specs.Flat.{device, withStatus, detachStatus};
 ghost use Rattle.refinement.specs.Flat as flat;
 use crate::moving::leave;
 use crate::steps::is_in;
-use crate::steps::owned_at;
 use refinement::HandlerResult;
 use rules::Domain;
 use rules::Endpoint;
@@ -46,7 +45,7 @@ fn detach_status<'a>(
 ) -> u8
     ensures { λ r. ⌜ ((s : State) → r ≡ detachStatus (withEndpoints listed (s .endpoints) (now (owners .entry)) (now (attached .entry)) (now (domains .entry)) (s .live) s) g d i reserved) ⌝ }
 {
-    let owned = owned_at(listed, owners, g, i);
+    let owned = state_endpoints::owned_at(listed, owners, g, i);
     let there = is_in(attached, domains, i, d);
     first_detach(reserved != 0, !owned, !there)
 }

@@ -1,7 +1,7 @@
 // What the steps of ATTACH and DETACH ask.
 ghost use mathlib.Core.Path.{_≡_};
 ghost use mathlib.Core.Bool.{not, _&&_};
-ghost use lib.Dec.{ltb, eqb};
+ghost use lib.Dec.{eqb};
 ghost use lib.ListN.{getD, take};
 ghost use Rattle.rules.specs.Table.{keyOf, records};
 ghost use Rattle.rules.specs.Handlers.{outside};
@@ -12,16 +12,6 @@ use rules::DomainRange;
 use rules::Guest;
 use rules::sizes::MAX_ENDPOINTS;
 use rules::sizes::REGION_PLACES;
-
-// Whether the endpoint at place i is among the first n and guest g's.
-pub(crate) fn owned_at(n: usize, owners: &[u8], g: Guest, i: usize) -> bool
-    ensures { λ r. ⌜ r ≡ ltb i n && eqb (getD (now (owners .entry)) i 0) (g .0) ⌝ }
-{
-    if owners.len() <= i {
-        return (i < n) & (0 == g.0);
-    }
-    (i < n) & (owners[i] == g.0)
-}
 
 // Whether domain d lies outside the range.
 pub(crate) fn is_outside(range: DomainRange, d: Domain) -> bool

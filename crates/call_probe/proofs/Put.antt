@@ -1,5 +1,5 @@
 -- The properties of regions, put into a buffer one after another.
-use Prim.Native.Nat.{ℕ, suc, _+_, _-_, _*_, _≤_, _<_, min}
+use Prim.Native.Nat.{ℕ, _+_, _-_, _*_, _≤_, _<_, min}
 use mathlib.Core.Path.{_≡_, refl, sym, ap, _∙_}
 use mathlib.Core.Bool.{Bool, true, false, cond}
 use mathlib.Core.List.{List, [], _∷_, _++_, append-nil, append-assoc}
@@ -10,18 +10,19 @@ use lib.ListN.{length, getD, take, drop, replicate, length-append, length-drop, 
 use lib.Seq.{take-suc, take-at, take-all, length-take-le, drop-append-add, drop-drop, getD-append-add, getD-drop}
 use borrow.Author.Tests.{eq-eqb, ltb-true, ltb-false}
 use borrow.Rule.Slice.PartMut.{midOf, putMid, post-is, mid-len}
-use Rattle.laws.specs.Lists.{tab, pad}
-use Rattle.laws.proofs.Tables.{length-tab, tab-is}
+use Rattle.laws.specs.Lists.{pad}
+use Rattle.laws.proofs.Tables.{tab-is}
 use Rattle.rules.specs.declared.Region.{Region}
 use Rattle.rules.specs.declared.Guest.{Guest}
 use Rattle.rules.specs.declared.Endpoint.{Endpoint}
 use Rattle.rules.specs.declared.State.{State}
-use Rattle.rules.specs.Configuration.{regionCount, regionAt}
+use Rattle.rules.specs.Configuration.{regionCount}
 use Rattle.rules.specs.Sizes.{maxEndpoints, maxRegions}
 use Rattle.rules.specs.Requests.{OK, NOENT}
 use Rattle.wire_properties.specs.Properties.{propertyPut, propertiesPut}
 use Rattle.wire_properties.proofs.Laws.{length-property}
 use Rattle.state_regions.specs.Held.{heldCount, heldRegions}
+use Rattle.state_regions.proofs.Regions.{length-held}
 use Rattle.refinement.specs.Flat.{endpointIndex, ownedAt, probeBytes}
 use Rattle.call_probe.specs.Probed.{Probed}
 
@@ -32,10 +33,6 @@ held-few w i = go (ltb i maxEndpoints)
     go : (b : Bool) → cond b (min (regionCount w i) maxRegions) 0 ≤ 4
     go true = omega arith
     go false = omega arith
-
-pub length-held : (w : List ℕ) (i : ℕ) → length (heldRegions w i) ≡ heldCount w i
-unfolding heldRegions
-length-held w i = length-tab (heldCount w i) (regionAt w i)
 
 -- the properties of the first j regions, and then the bytes that were there
 abbrev pub written : List Region → ℕ → List ℕ → List ℕ
@@ -71,8 +68,8 @@ module _ (l : List Region) (d : List ℕ) where
   pub written-all : (j : ℕ) (b : List ℕ) → b ≡ written l j d → length l ≡ j → b ≡ propertiesPut l ++ drop (24 * j) d
   written-all j b e h = e ∙ rw (take-all j l (omega arith))
 
--- zeros after the properties of four regions at most are what is left over
-pub padded : (l : List ℕ) (n : ℕ) → length l ≤ n → l ++ drop (length l) (replicate n 0) ≡ pad n 0 l
+-- a list with the rest of n zeros after it
+padded : (l : List ℕ) (n : ℕ) → length l ≤ n → l ++ drop (length l) (replicate n 0) ≡ pad n 0 l
 padded l n h = sym (tab-is n (λ i. getD l i 0) (l ++ drop (length l) (replicate n 0)) 0 sized (λ i k. go i k (ltb i (length l)) refl))
   where
     sized : length (l ++ drop (length l) (replicate {A = ℕ} n 0)) ≡ n
@@ -87,6 +84,7 @@ padded l n h = sym (tab-is n (λ i. getD l i 0) (l ++ drop (length l) (replicate
         ∙ sym (ap (λ (x : ℕ). getD (l ++ drop (length l) (replicate n 0)) x 0) e ∙ getD-append-add l (drop (length l) (replicate n 0)) (i - length l) 0
         ∙ getD-drop (length l) (replicate n 0) (i - length l) 0 ∙ getD-replicate n (length l + (i - length l)) 0 0 (omega arith))
 
+-- an endpoint's properties, and then zeros for what is left over
 pub padded-properties : (w : List ℕ) (i : ℕ) → propertiesPut (heldRegions w i) ++ drop (24 * heldCount w i) (replicate 128 0) ≡ pad 128 0 (propertiesPut (heldRegions w i))
 padded-properties w i =
     let e : length (propertiesPut (heldRegions w i)) ≡ 24 * heldCount w i = length-properties (heldRegions w i) ∙ rw (length-held w i) in

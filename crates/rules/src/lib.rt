@@ -107,7 +107,7 @@ pub enum Refusal {
     NoSuchGuest,
     // The table's length, or the state and table, are not sound.
     Unsound,
-    // The request's type is not 1 to 4.
+    // The request's type is not 1 to 5.
     UnknownType,
     // A part of the request is too short or has not the type's length.
     WrongLength,

@@ -30,7 +30,7 @@ module _ (w : List ℕ) (i : ℕ) where
       go true e h = (ltb-true i maxEndpoints e, omega arith)
       go false e h = absurd (omega arith)
 
-  length-held : length (heldRegions w i) ≡ heldCount w i
+  pub length-held : length (heldRegions w i) ≡ heldCount w i
   unfolding heldRegions
   length-held = length-tab (heldCount w i) (regionAt w i)
 

@@ -5,7 +5,8 @@ use native.Mathlib.Omega.{arith}
 use borrow.Author.Needs.{needs}
 use lib.ListN.{length}
 use Rattle.state_regions.specs.Held.{heldCount, heldRegions, noRegion}
-use Rattle.call_probe.proofs.Put.{held-few, length-held, written, written-next, written-all}
+use Rattle.state_regions.proofs.Regions.{length-held}
+use Rattle.call_probe.proofs.Put.{held-few, written, written-next, written-all}
 use Rattle.call_probe.proofs.putting.put_properties.Statement.{statement}
 use Rattle.call_probe.proofs.putting.put_properties.Tie as tie
 
