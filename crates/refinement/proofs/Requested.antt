@@ -48,6 +48,7 @@ use Rattle.state_reset.specs.Changes.{guestCleared}
 use Rattle.wire_properties.specs.Properties.{propertiesPut}
 use Rattle.state_regions.specs.Held.{heldRegions}
 use Rattle.table_reserved.specs.Reserved.{regionsMet}
+use Rattle.table_reserved.proofs.Swapped.{regions-met}
 use Rattle.state_endpoints.specs.Search.{indexOf}
 use Rattle.refinement.specs.Flat.{device, withStatus, endpointIndex, ownedAt, isAttached, liveRecords, removed, inserted, settled, isInDomain, barredFrom, attachStatus, detachStatus, mapStatus, mapCounted, unmapStatus, probeStatus, probeBytes, resetGuest}
 use Rattle.refinement.specs.Flat as flat
@@ -55,7 +56,7 @@ use Rattle.rules.proofs.PutBack.{with-kept, with-inserted, any-of}
 use Rattle.rules.proofs.Unchanged.{attachments-same, records-same, replace-same}
 use Rattle.refinement.proofs.Places.{owner-at, listed-owned}
 use Rattle.refinement.proofs.Written.{withRecs, withLogs, exists-written, removed-written, inserted-written}
-use Rattle.refinement.proofs.Reserved.{regions-of-at, held-here, on-regions, regions-met, properties-put}
+use Rattle.refinement.proofs.Reserved.{regions-of-at, held-here, on-regions, properties-put}
 use Rattle.refinement.proofs.Leaving.{place-listed, keep-agree, ends, replace-records, left-written, entered-written, moved-on, attachment-here, flag-here, number-here, in-domain, of-key-mine}
 use Rattle.refinement.proofs.Logs.{logged-written, dropped-written, cleared-written}
 use Rattle.refinement.proofs.Statuses.{settled-written}

@@ -1,17 +1,16 @@
 -- Reserved regions on the state's words, against the rules on the guest's part.
-use Prim.Native.Nat.{ℕ, zero, suc, _+_, _*_, _%_, _≤_, _<_}
+use Prim.Native.Nat.{ℕ, suc, _+_, _*_, _%_, _≤_, _<_}
 use mathlib.Core.Path.{_≡_, refl, sym, ap, _∙_}
-use mathlib.Core.Bool.{Bool, true, false, cond, _&&_, _||_}
+use mathlib.Core.Bool.{Bool, true, false, cond, _&&_}
 use mathlib.Core.List.{List, [], _∷_}
-use mathlib.Core.Option.{some, none}
+use mathlib.Core.Option.{some}
 use native.Mathlib.Omega.{arith}
 use lib.Dec.{leb, eqb}
 use lib.ListN.{length, getD, take}
 use lib.Seq.{getD-take}
 use borrow.Author.Tests.{leb-true}
 use Rattle.laws.specs.Lists.{all?, any?, tab, pickBy}
-use Rattle.laws.proofs.Tests.{both, both-left, both-right, true-false, or-left, or-right, same-test, eqb-sym}
-use Rattle.laws.proofs.Filters.{any-append, any-same}
+use Rattle.laws.proofs.Tests.{both, both-left, both-right, true-false, same-test}
 use Rattle.laws.proofs.Tables.{length-tab, getD-tab}
 use Rattle.rules.specs.declared.Guest.{Guest}
 use Rattle.rules.specs.declared.Endpoint.{Endpoint}
@@ -20,9 +19,8 @@ use Rattle.rules.specs.declared.Mapping.{Mapping}
 use Rattle.rules.specs.declared.Region.{Region}
 use Rattle.rules.specs.Sizes.{maxEndpoints, maxRegions, endpointRegionWords}
 use Rattle.rules.specs.Configuration.{Config, MSI, meets, regionCount, regionsAt}
-use Rattle.rules.specs.Table.{overlap}
-use Rattle.rules.specs.State.{Attachment, World, trimmedRegions, stateOf}
-use Rattle.rules.specs.Handlers.{isIn, ofKey, regionsOf, regionsIn, onRegion, propertiesOf}
+use Rattle.rules.specs.State.{World, trimmedRegions, stateOf}
+use Rattle.rules.specs.Handlers.{regionsOf, regionsIn, onRegion, propertiesOf}
 use Rattle.rules.specs.Sound.{guest}
 use Rattle.rules.specs.Device.{ownerOf}
 use Rattle.rules.proofs.Groups.{Good}
@@ -31,7 +29,7 @@ use Rattle.rules.proofs.Writing.{kept}
 use Rattle.wire_properties.specs.Properties.{propertyPut, propertiesPut}
 use Rattle.state_regions.specs.Held.{heldRegions}
 use Rattle.state_regions.proofs.Regions.{held-is}
-use Rattle.table_reserved.specs.Reserved.{recordOver, regionsMet}
+use Rattle.state_regions.proofs.InDomain.{regions-at, regions-from}
 use Rattle.state_endpoints.specs.Search.{anyBelow, belongs, indexOf}
 use Rattle.refinement.specs.Flat as flat
 use Rattle.refinement.proofs.Places.{head-owner}
@@ -80,50 +78,6 @@ module _ (c : Config) (k : kept c ≡ c) (good-c : Good c) (w : World) where
 
 -- THE REGIONS OF A DOMAIN
 
--- some endpoint of owner g in the domain, by place, has a region that passes
-module _ (g : ℕ) (dom : Domain) (q : Region → Bool) where
-  abbrev found : List ℕ → List Attachment → List (List Region) → ℕ → Bool
-  found os l rs i = (eqb (getD os i 0) g && isIn dom (getD l i none)) && any? q (getD rs i [])
-
-  regions-at : (os : List ℕ) (l : List Attachment) (rs : List (List Region)) → length l ≡ length rs → any? q (regionsIn dom (pickBy g os l) (pickBy g os rs)) ≡ true → (i : ℕ) × (i < length l) × (found os l rs i ≡ true)
-  regions-at [] l rs n h = true-false true refl (sym h)
-  regions-at (o ∷ os) [] rs n h = true-false true refl (sym h)
-  regions-at (o ∷ os) (a ∷ l) [] n h = absurd (omega arith)
-  regions-at (o ∷ os) (a ∷ l) (b ∷ rs) n h = go (eqb o g) refl (isIn dom a) refl h (λ k. regions-at os l rs (omega arith) k)
-    where
-      Later : Type 0
-      Later = any? q (regionsIn dom (pickBy g os l) (pickBy g os rs)) ≡ true → (i : ℕ) × (i < length l) × (found os l rs i ≡ true)
-
-      Found : Type 0
-      Found = (i : ℕ) × (i < length (a ∷ l)) × (found (o ∷ os) (a ∷ l) (b ∷ rs) i ≡ true)
-
-      next : Later → any? q (regionsIn dom (pickBy g os l) (pickBy g os rs)) ≡ true → Found
-      next f k = let r = f k in (suc (r .0), omega (arith, r .1), r .2)
-
-      go : (t : Bool) → eqb o g ≡ t → (u : Bool) → isIn dom a ≡ u → any? q (regionsIn dom (cond t (a ∷ pickBy g os l) (pickBy g os l)) (cond t (b ∷ pickBy g os rs) (pickBy g os rs))) ≡ true → Later → Found
-      go true x true y k f = here (any? q b) refl (sym (any-append q b (regionsIn dom (pickBy g os l) (pickBy g os rs))) ∙ (rw y at k))
-        where
-          here : (v : Bool) → any? q b ≡ v → (v || any? q (regionsIn dom (pickBy g os l) (pickBy g os rs))) ≡ true → Found
-          here true z k = (0, omega arith, rw (x, y, z))
-          here false z k = next f k
-      go true x false y k f = next f (rw y at k)
-      go false x u y k f = next f k
-
-  regions-from : (os : List ℕ) (l : List Attachment) (rs : List (List Region)) (i : ℕ) → i < length l → length l ≤ length os → length l ≡ length rs → found os l rs i ≡ true → any? q (regionsIn dom (pickBy g os l) (pickBy g os rs)) ≡ true
-  regions-from [] l rs i m n s h = absurd (omega arith)
-  regions-from (o ∷ os) [] rs i m n s h = absurd (omega arith)
-  regions-from (o ∷ os) (a ∷ l) [] i m n s h = absurd (omega arith)
-  regions-from (o ∷ os) (a ∷ l) (b ∷ rs) zero m n s h =
-      let first = both-left (eqb o g && isIn dom a) (any? q b) h in
-      rw (both-left (eqb o g) (isIn dom a) first, both-right (eqb o g) (isIn dom a) first)
-      (any-append q b (regionsIn dom (pickBy g os l) (pickBy g os rs)) ∙ or-left (any? q b) _ (both-right (eqb o g && isIn dom a) (any? q b) h))
-  regions-from (o ∷ os) (a ∷ l) (b ∷ rs) (suc i) m n s h = go (eqb o g) (isIn dom a) refl (regions-from os l rs i (omega arith) (omega arith) (omega arith) h)
-    where
-      go : (t u : Bool) → isIn dom a ≡ u → any? q (regionsIn dom (pickBy g os l) (pickBy g os rs)) ≡ true → any? q (regionsIn dom (cond t (a ∷ pickBy g os l) (pickBy g os l)) (cond t (b ∷ pickBy g os rs) (pickBy g os rs))) ≡ true
-      go true true y k = rw y (any-append q b (regionsIn dom (pickBy g os l) (pickBy g os rs)) ∙ or-right (any? q b) _ k)
-      go true false y k = rw y k
-      go false u y k = k
-
 module _ (c : Config) (k : kept c ≡ c) (good-c : Good c) (w : World) (size : length (w .attachments) ≡ length (c .owners)) where
   abbrev all : List (List Region)
   all = tab (length (c .endpoints)) (regionsAt (c .regions))
@@ -159,44 +113,6 @@ module _ (c : Config) (k : kept c ≡ c) (good-c : Good c) (w : World) (size : l
           let f = regions-at (g .0) dom (meets (r .start) (r .end)) (c .owners) (w .attachments) all as-many x in
           let small = small-place c good-c w size (f .1) in
           any-from maxEndpoints flatly (f .0) small (rw (belongs-at c good-c w size g dom (f .0) small, at-place (f .0) (f .1)) (f .2))
-
--- RECORDS ON THE REGIONS
-
-any-or : {A : Type 0} (p q : A → Bool) (l : List A) → any? (λ x. p x || q x) l ≡ (any? p l || any? q l)
-any-or p q [] = refl
-any-or p q (x ∷ l) = rw (any-or p q l) (go (p x) (q x) (any? p l) (any? q l))
-  where
-    go : (a b s t : Bool) → ((a || b) || (s || t)) ≡ ((a || s) || (b || t))
-    go true b s t = refl
-    go false true true t = refl
-    go false true false t = refl
-    go false false s t = refl
-
-any-no : {A : Type 0} (l : List A) → any? (λ x. false) l ≡ false
-any-no [] = refl
-any-no (x ∷ l) = any-no l
-
-any-and : {A : Type 0} (b : Bool) (q : A → Bool) (l : List A) → any? (λ x. b && q x) l ≡ (b && any? q l)
-any-and true q l = refl
-any-and false q l = any-no l
-
--- asked of each region whether a record meets it, or of each record whether it meets a region
-any-swap : {A B : Type 0} (f : A → B → Bool) (l : List A) (m : List B) → any? (λ x. any? (f x) m) l ≡ any? (λ y. any? (λ x. f x y) l) m
-any-swap f [] m = sym (any-no m)
-any-swap f (x ∷ l) m = rw (any-swap f l m) (sym (any-or (f x) (λ y. any? (λ x. f x y) l) m))
-
-pub regions-met : (key : ℕ) (l : List Mapping) (qs : List Region) → regionsMet key l qs ≡ any? (λ r. ofKey key r && onRegion qs r) l
-unfolding regionsMet onRegion
-regions-met key l qs = any-swap (λ q r. overlap (recordOver key q) r) qs l ∙ any-same _ _ l (λ r. any-same _ _ qs (λ q. turned q r) ∙ any-and (ofKey key r) (meets (r .start) (r .end)) qs)
-  where
-    turned : (q : Region) (r : Mapping) → overlap (recordOver key q) r ≡ (ofKey key r && meets (r .start) (r .end) q)
-    turned q r = unfold overlap ofKey in (rw (eqb-sym key (r .key)) (ap (λ (b : Bool). eqb (r .key) key && b) (and-comm (leb (q .start) (r .end)) (leb (r .start) (q .end)))))
-      where
-        and-comm : (a b : Bool) → (a && b) ≡ (b && a)
-        and-comm true true = refl
-        and-comm true false = refl
-        and-comm false true = refl
-        and-comm false false = refl
 
 -- PROPERTIES
 

@@ -11,7 +11,7 @@ use lib.ListN.{length, getD, take}
 use lib.Seq.{getD-take}
 use borrow.Author.Tests.{ltb-false, eqb-true, eq-eqb, le-leb, not-true}
 use Rattle.laws.specs.Lists.{all?, any?, every?, below, pickBy, tab}
-use Rattle.laws.proofs.Tests.{both, both-left, both-right, true-false, or-cases, nor, and-not, same-test}
+use Rattle.laws.proofs.Tests.{both, both-left, both-right, true-false, or-cases, nor, same-test}
 use Rattle.laws.proofs.Filters.{all-imp, none-passes}
 use Rattle.laws.proofs.Tables.{below-at, below-all, length-tab, getD-tab}
 use Rattle.rules.specs.declared.Region.{Region}
@@ -27,9 +27,10 @@ use Rattle.rules.proofs.Groups.{Good, good-facts, Framed, Placed}
 use Rattle.rules.proofs.Regions.{regions-agree, region-count}
 use Rattle.state_regions.specs.Held.{heldRegions}
 use Rattle.state_regions.proofs.Regions.{held-is}
+use Rattle.state_regions.proofs.InDomain.{found, regions-at, regions-from}
 use Rattle.table_reserved.specs.Reserved.{regionsMet}
+use Rattle.table_reserved.proofs.Swapped.{regions-met}
 use Rattle.sound_regions.specs.Clear.{keyAt, endpointClear, regionsGood}
-use Rattle.sound_regions.proofs.Within.{some-in, none-in, met-by-record}
 
 -- none passes, where each fails
 fails-all : {A : Type 0} (q : A → Bool) (l : List A) → all? (λ x. not (q x)) l ≡ true → any? q l ≡ false
@@ -139,6 +140,12 @@ module _ (d : Device) (f : Framed d) (p : Placed (d .state)) where
     unfolding configOf
     length-regions = length-tab (length (take n (d .state .endpoints))) _ ∙ f .listed
 
+    length-attachments : length ats ≡ n
+    length-attachments = length-tab n (attachmentAt (d .state))
+
+    as-many : length ats ≡ length rs
+    as-many = length-attachments ∙ sym length-regions
+
     region-at : (i : ℕ) → i < n → getD rs i [] ≡ heldRegions (d .state .regions) i
     unfolding configOf
     region-at i h = getD-tab (length (take n (d .state .endpoints))) _ i [] (rw (f .listed) h) ∙ regions-here i h
@@ -149,37 +156,40 @@ module _ (d : Device) (f : Framed d) (p : Placed (d .state)) where
     owner-at : (i : ℕ) → i < n → getD os i 0 ≡ getD owners i 0
     owner-at i h = getD-take n owners i 0 h
 
-    -- off the regions of the endpoints in its domain
+    -- an endpoint that is attached bars the record where it is of the guest and in the domain that the record names, and has a
+    -- region that the record meets
+    bars-found : (i : ℕ) → i < n → eqb (getD attached i 0) 1 ≡ true → bars i r ≡ found (guestOf r) (domainOf r) q os ats rs i
+    unfolding onRegion
+    bars-found i h e =
+        rw (key-is (getD owners i 0) (getD domains i 0) r (narrow-at i h), owner-at i h, region-at i h, attachment-at i h, e)
+
     off : recordClear (configOf (d .state)) (read d) r ≡ true → (i : ℕ) → i < n → eqb (getD attached i 0) 1 ≡ true → bars i r ≡ false
     unfolding offRegions onRegion own part read configOf
     off c i h e = go (bars i r) refl
       where
         go : (b : Bool) → bars i r ≡ b → b ≡ false
         go true m =
-            let k = key-is (getD owners i 0) (getD domains i 0) r (narrow-at i h) in
-            let t = sym k ∙ both-left (ofKey (keyAt owners domains i) r) _ m in
             true-false (any? q (regionsIn (domainOf r) (pickBy (guestOf r) os ats) (pickBy (guestOf r) os rs)))
-            (some-in q (domainOf r) (guestOf r) os ats rs i (rw length-owners h) (rw (length-tab n (attachmentAt (d .state))) h) (rw length-regions h)
-            (rw (owner-at i h) (both-left (eqb (getD owners i 0) (guestOf r)) _ t))
-            (attachment-at i h ∙ both (eqb (getD attached i 0) 1) _ e (both-right (eqb (getD owners i 0) (guestOf r)) _ t))
-            (rw (region-at i h) (both-right (ofKey (keyAt owners domains i) r) _ m)))
+            (regions-from (guestOf r) (domainOf r) q os ats rs i (rw length-attachments h) (omega (arith, length-attachments, length-owners)) as-many (sym (bars-found i h e) ∙ m))
             (not-true _ c)
         go false m = refl
 
     on : ((i : ℕ) → i < n → eqb (getD attached i 0) 1 ≡ true → bars i r ≡ false) → recordClear (configOf (d .state)) (read d) r ≡ true
     unfolding offRegions onRegion own part read configOf
-    on c =
-        ap not
-        (none-in q (domainOf r) (guestOf r) os ats rs (length-tab n (attachmentAt (d .state)) ∙ sym length-regions)
-        (λ i k h o a. here i (rw length-owners at k) o a))
+    on c = ap not (go (any? q (regionsIn (domainOf r) (pickBy (guestOf r) os ats) (pickBy (guestOf r) os rs))) refl)
       where
-        here : (i : ℕ) → i < n → eqb (getD os i 0) (guestOf r) ≡ true → isIn (domainOf r) (getD ats i none) ≡ true → any? q (getD rs i []) ≡ false
-        here i h o a =
-            let t = sym (attachment-at i h) ∙ a in
-            let k = key-is (getD owners i 0) (getD domains i 0) r (narrow-at i h) in
-            rw (region-at i h)
-            (and-not (ofKey (keyAt owners domains i) r) _ (c i h (both-left (eqb (getD attached i 0) 1) _ t))
-            (k ∙ both (eqb (getD owners i 0) (guestOf r)) _ (rw (owner-at i h) at o) (both-right (eqb (getD attached i 0) 1) _ t)))
+        here : (i : ℕ) → i < n → found (guestOf r) (domainOf r) q os ats rs i ≡ true → eqb (getD attached i 0) 1 ≡ true
+        here i h k =
+            both-left (eqb (getD attached i 0) 1) _
+            (sym (attachment-at i h) ∙ both-right (eqb (getD os i 0) (guestOf r)) _ (both-left (eqb (getD os i 0) (guestOf r) && isIn (domainOf r) (getD ats i none)) _ k))
+
+        go : (b : Bool) → any? q (regionsIn (domainOf r) (pickBy (guestOf r) os ats) (pickBy (guestOf r) os rs)) ≡ b → b ≡ false
+        go true m =
+            let f = regions-at (guestOf r) (domainOf r) q os ats rs as-many m in
+            let h : f .0 < n = omega (arith, f .1, length-attachments) in
+            let e = here (f .0) h (f .2) in
+            true-false (bars (f .0) r) (bars-found (f .0) h e ∙ f .2) (c (f .0) h e)
+        go false m = refl
 
   -- ALL RECORDS
 
@@ -198,11 +208,11 @@ module _ (d : Device) (f : Framed d) (p : Placed (d .state)) where
       (λ c. clear-all live (λ i h e. none-passes (bars i) live (met i e (below-at n (endpointClear live owners attached domains (d .state .regions)) i c h))))
     where
       clear : (i : ℕ) (b : Bool) → eqb (getD attached i 0) 1 ≡ b → (b ≡ true → any? (bars i) live ≡ false) → (not b || not (regionsMet (keyAt owners domains i) live (heldRegions (d .state .regions) i))) ≡ true
-      clear i true e m = rw (met-by-record (keyAt owners domains i) live (heldRegions (d .state .regions) i), m refl)
+      clear i true e m = rw (regions-met (keyAt owners domains i) live (heldRegions (d .state .regions) i), m refl)
       clear i false e m = refl
 
       met : (i : ℕ) → eqb (getD attached i 0) 1 ≡ true → endpointClear live owners attached domains (d .state .regions) i ≡ true → any? (bars i) live ≡ false
-      met i e c = sym (met-by-record (keyAt owners domains i) live (heldRegions (d .state .regions) i)) ∙ not-true _ (rw e at c)
+      met i e c = sym (regions-met (keyAt owners domains i) live (heldRegions (d .state .regions) i)) ∙ not-true _ (rw e at c)
 
   -- the code's test is that of soundness
   pub reserved-are : regionsGood n (d .state .live) owners attached domains (d .state .regions) (d .table) ≡ every? (reservedTests d)

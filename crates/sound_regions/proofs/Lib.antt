@@ -1,3 +1,2 @@
 mod Rest
-mod Within
 pub mod Cleared
