@@ -25,8 +25,8 @@
  *   - The buffers of one call do not overlap: neither with each other, nor with the table.
  *   - Nobody else writes to what is lent while the call runs, a guest neither: gather a request out of guest memory first.
  *   - Calls on one table do not run at the same time. Calls on different tables may.
- *   - VIOMMU_STACK_BYTES of stack are free, 12 KiB: the state crosses by value and is copied on the way. (tests/c/stack.c
- *     measures every kind of call, with full and with empty tables and logs, and refusals; the most is 8,816 bytes.)
+ *   - VIOMMU_STACK_BYTES of stack are free, 24 KiB: the state crosses by value and is copied on the way. (tests/c/stack.c
+ *     measures every kind of call, with full and with empty tables and logs, and refusals; the most is 22,144 bytes.)
  *
  * The archive is code for x86-64 Linux by the System V ABI. It uses the SSE registers and the red zone below the stack
  * pointer, and needs no symbol but C's memcpy, memmove, memset and memcmp.
@@ -59,7 +59,7 @@
 #define VIOMMU_PROPERTY_BYTES 24         /* bytes of a property that PROBE writes */
 #define VIOMMU_PROPERTIES_BYTES 128      /* bytes of all of them, with the zeros after the last */
 #define VIOMMU_PROBE_BYTES 132           /* bytes of PROBE's writable part: VIOMMU_PROPERTIES_BYTES + VIOMMU_STATUS_BYTES */
-#define VIOMMU_STACK_BYTES 32768         /* stack that is to be free for a call */
+#define VIOMMU_STACK_BYTES 24576         /* stack that is to be free for a call */
 
 /* NUMBERS: what a call gives back, and what it leaves behind */
 
