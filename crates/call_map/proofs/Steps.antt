@@ -35,16 +35,16 @@ told-first (s ∷ l) m h = go (s .0) (told-first l m (both-right (nonzero s) _ h
     go true i = rw (both-left (nonzero s) _ h)
     go false i = i
 
-map-told : (b : Bool) (l : Steps) (o u : Bool) → all? nonzero l ≡ true → statusOf (mapChain b (told (statusOf l)) o u) ≡ statusOf (mapChain b l o u)
-map-told true l o u h = refl
-map-told false l o u h = told-first l _ h
+map-told : (b : Bool) (l : Steps) (o q u : Bool) → all? nonzero l ≡ true → statusOf (mapChain b (told (statusOf l)) o q u) ≡ statusOf (mapChain b l o q u)
+map-told true l o q u h = refl
+map-told false l o q u h = told-first l _ h
 
 -- a guest's limits are those of its own part of the configuration
 form-own : (s : State) (g : Guest) (r : Mapping) → statusOf (formSteps (limits (s .settings .mask) (s .settings .input) (windowFirst (s .settings) (g .0)) (windowLast (s .settings) (g .0))) r) ≡ statusOf (formSteps (own (configOf s) g) r)
 unfolding formSteps own configOf
 form-own s g r = refl
 
-pub map-steps : (s : State) (ws : List ℕ) (g : Guest) (d : Domain) (r : Mapping) (x f n m : ℕ) (b o : Bool) → b ≡ flat.domainExists s g d → f ≡ statusOf (formSteps (limits (s .settings .mask) (s .settings .input) (windowFirst (s .settings) (g .0)) (windowLast (s .settings) (g .0))) r) → o ≡ any? (overlap r) (take (s .live) (records ws)) → n ≡ length (recordsOf g (take (s .live) (records ws)))
-    → m ≡ share (s .settings) (g .0) → x ≡ statusOf (mapChain (not b) (told f) o (leb m n)) → x ≡ mapStatus (device s ws) g d r
+pub map-steps : (s : State) (ws : List ℕ) (g : Guest) (d : Domain) (r : Mapping) (x f n m : ℕ) (b o q : Bool) → b ≡ flat.domainExists s g d → f ≡ statusOf (formSteps (limits (s .settings .mask) (s .settings .input) (windowFirst (s .settings) (g .0)) (windowLast (s .settings) (g .0))) r) → o ≡ any? (overlap r) (take (s .live) (records ws)) → q ≡ flat.onRegions s g d r → n ≡ length (recordsOf g (take (s .live) (records ws)))
+    → m ≡ share (s .settings) (g .0) → x ≡ statusOf (mapChain (not b) (told f) o q (leb m n)) → x ≡ mapStatus (device s ws) g d r
 unfolding mapStatus
-map-steps s ws g d r x f n m b o eb ef eo en em e = e ∙ rw (eb, ef ∙ form-own s g r, eo, en, em) (map-told (not (flat.domainExists s g d)) (formSteps (own (configOf s) g) r) _ _ (unfold formSteps in refl))
+map-steps s ws g d r x f n m b o q eb ef eo eq en em e = e ∙ rw (eb, ef ∙ form-own s g r, eo, eq, en, em) (map-told (not (flat.domainExists s g d)) (formSteps (own (configOf s) g) r) _ _ _ (unfold formSteps in refl))

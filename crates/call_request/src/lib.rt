@@ -1,104 +1,24 @@
 // Requests, refusals in order and then the handler of the type.
+mod answering;
+
 ghost use mathlib.Core.Path.{_≡_};
 ghost use Rattle.rules.specs.declared.State.{State};
 ghost use Rattle.rules.specs.Device as rules;
-ghost use Rattle.state_fields.specs.Fields.{withSettings, withEndpoints};
-ghost use Rattle.refinement.specs.Flat.{device, withStatus};
+ghost use Rattle.refinement.specs.Flat.{device};
 ghost use Rattle.refinement.specs.Requesting.{serve};
-ghost use Rattle.refinement.specs.Requesting as requesting;
 ghost use Rattle.refinement.specs.Replied.{replied};
+ghost use Rattle.call_request.specs.Answered.{lent};
 use refinement::CallResult;
-use refinement::HandlerResult;
 use refinement::LentResult;
 use rules::Answer;
 use rules::Guest;
-use rules::Mapping;
 use rules::Refusal;
 use rules::Settings;
 use rules::State;
-use rules::requests::DEVERR;
 use rules::sizes::MAX_ENDPOINTS;
-use rules::sizes::STATUS_SIZE;
+use rules::sizes::REGION_PLACES;
 use sound::Checked;
 use wire_requests::request::Request;
-
-// What the handler of a request's type gives; a refused request has none.
-fn handle<'a>(
-    settings: Settings,
-    listed: usize,
-    live: usize,
-    endpoints: &'a [u32; MAX_ENDPOINTS],
-    owners: &'a [u8; MAX_ENDPOINTS],
-    attached: &'a mut [u8; MAX_ENDPOINTS],
-    domains: &'a mut [u32; MAX_ENDPOINTS],
-    t: &'a mut [u64],
-    g: Guest,
-    q: Request,
-) -> HandlerResult
-    ensures { λ r. ⌜ ((s : State) → withStatus (r .status) (device (withSettings settings (withEndpoints listed (now (endpoints .entry)) (now (owners .entry)) (now (attached .exit)) (now (domains .exit)) (r .live) s)) (now (t .exit))) ≡ requesting.handle (device (withSettings settings (withEndpoints listed (now (endpoints .entry)) (now (owners .entry)) (now (attached .entry)) (now (domains .entry)) live s)) (now (t .entry))) g q) ⌝ }
-{
-    match q {
-        Request::Refused(_) => HandlerResult {
-            status: DEVERR,
-            live,
-        },
-        Request::Attach(d, e, reserved) => {
-            call_attach::handle_attach(
-                settings,
-                listed,
-                live,
-                endpoints,
-                owners,
-                attached,
-                domains,
-                t,
-                g,
-                d,
-                e,
-                reserved,
-            )
-        }
-        Request::Detach(d, e, reserved) => {
-            call_attach::handle_detach(
-                listed,
-                live,
-                endpoints,
-                owners,
-                attached,
-                domains,
-                t,
-                g,
-                d,
-                e,
-                reserved,
-            )
-        }
-        Request::Map(d, f) => {
-            let r = Mapping {
-                key: table_record::key_of(g, d),
-                start: f.start,
-                end: f.end,
-                phys: f.phys,
-                flags: f.flags,
-            };
-            call_map::handle_map(settings, live, owners, attached, domains, t, g, d, r)
-        }
-        Request::Unmap(d, f) => {
-            call_unmap::handle_unmap(
-                live,
-                owners,
-                attached,
-                domains,
-                t,
-                g,
-                d,
-                f.start,
-                f.end,
-                f.reserved,
-            )
-        }
-    }
-}
 
 // A guest's request on lent arrays, state and table not tested.
 pub fn serve<'a>(
@@ -109,12 +29,13 @@ pub fn serve<'a>(
     owners: &'a [u8; MAX_ENDPOINTS],
     attached: &'a mut [u8; MAX_ENDPOINTS],
     domains: &'a mut [u32; MAX_ENDPOINTS],
+    regions: &'a [u64; REGION_PLACES],
     t: &'a mut [u64],
     g: Guest,
     readable: &'a [u8],
     writable: &'a mut [u8],
 ) -> LentResult
-    ensures { λ r. ⌜ ((s : State) → (record { answer = r .answer; buffer = now (writable .exit) }, device (withSettings settings (withEndpoints listed (now (endpoints .entry)) (now (owners .entry)) (now (attached .exit)) (now (domains .exit)) (r .live) s)) (now (t .exit))) ≡ serve (device (withSettings settings (withEndpoints listed (now (endpoints .entry)) (now (owners .entry)) (now (attached .entry)) (now (domains .entry)) live s)) (now (t .entry))) g (now (readable .entry)) (now (writable .entry))) ⌝ }
+    ensures { λ r. ⌜ ((s : State) → (record { answer = r .answer; buffer = now (writable .exit) }, lent settings listed (r .live) (now (endpoints .entry)) (now (owners .entry)) (now (attached .exit)) (now (domains .exit)) (now (regions .entry)) (now (t .exit)) s) ≡ serve (lent settings listed live (now (endpoints .entry)) (now (owners .entry)) (now (attached .entry)) (now (domains .entry)) (now (regions .entry)) (now (t .entry)) s) g (now (readable .entry)) (now (writable .entry))) ⌝ }
 {
     if settings.guests <= (g.0 as usize) {
         return LentResult {
@@ -122,14 +43,15 @@ pub fn serve<'a>(
             live,
         };
     }
-    let q = wire_requests::request::parse(readable, writable.len());
+    let n = writable.len();
+    let q = wire_requests::request::parse(readable, n);
     if let Request::Refused(e) = q {
         return LentResult {
             answer: Answer::Refused(e),
             live,
         };
     }
-    let h = handle(
+    let h = answering::answer(
         settings,
         listed,
         live,
@@ -137,13 +59,14 @@ pub fn serve<'a>(
         owners,
         attached,
         domains,
+        regions,
         t,
         g,
         q,
+        writable,
     );
-    wire_requests::status::put_status(writable, h.status);
     LentResult {
-        answer: Answer::Served(STATUS_SIZE),
+        answer: Answer::Served(n),
         live: h.live,
     }
 }
@@ -167,6 +90,7 @@ pub fn request(
         &s.owners,
         &s.attached,
         &s.domains,
+        &s.regions,
         &s.logged,
         &s.lost,
         &s.reasons,
@@ -192,6 +116,7 @@ pub fn request(
         &s.owners,
         &mut attached,
         &mut domains,
+        &s.regions,
         t,
         g,
         readable,

@@ -2,7 +2,7 @@
 use native.Mathlib.Omega.{arith}
 use borrow.Author.Needs.{needs}
 use borrow.Author.Tests.{not-true, not-false}
-use Rattle.state_fields.specs.Fields.{withSettings, withDomains}
+use Rattle.state_fields.specs.Fields.{withSettings, withDomains, withRegions}
 use Rattle.call_map.proofs.Mapped.{places, map-unplaced, map-refused, map-done}
 use Rattle.call_map.proofs.handle_map.Statement.{statement}
 use Rattle.call_map.proofs.handle_map.Tie as tie
@@ -10,7 +10,7 @@ use Rattle.call_map.proofs.handle_map.Tie as tie
 returns : tie.Need-returns
 returns c s =
     let a = c .before .before .before .args in
-    let here = withSettings (a .settings) (withDomains (a .owners .now) (a .attached .now) (a .domains .now) (a .live) s) in
+    let here = withRegions (a .regions .now) (withSettings (a .settings) (withDomains (a .owners .now) (a .attached .now) (a .domains .now) (a .live) s)) in
     map-unplaced here (a .t .now) (a .g) (a .d) (a .r) (not-true _ (c .if1 .taken))
 
 map-status-requires : tie.Need-map-status-requires
@@ -24,10 +24,10 @@ returns-2 c s =
     let x = c .before .map-status in
     let i = c .before .before .before in
     let a = i .before .before .before .args in
-    let here = withSettings (a .settings) (withDomains (a .owners .now) (a .attached .now) (a .domains .now) (a .live) s) in
+    let here = withRegions (a .regions .now) (withSettings (a .settings) (withDomains (a .owners .now) (a .attached .now) (a .domains .now) (a .live) s)) in
     map-refused here (a .t .now) (a .g) (a .d) (a .r) (not-false _ (i .if1 .left)) (x .result) (x .ensures s) (c .if2 .taken)
 
-add-live : tie.Need-add-t20
+add-live : tie.Need-add-t21
 add-live c =
     let i = c .before .before .before .before .before .before .before in
     let a = i .before .before .before .args in
@@ -40,7 +40,7 @@ returns-3 c s =
     let x = e .before .map-status in
     let i = e .before .before .before in
     let a = i .before .before .before .args in
-    let here = withSettings (a .settings) (withDomains (a .owners .now) (a .attached .now) (a .domains .now) (a .live) s) in
+    let here = withRegions (a .regions .now) (withSettings (a .settings) (withDomains (a .owners .now) (a .attached .now) (a .domains .now) (a .live) s)) in
     map-done here (a .t .now) (a .g) (a .d) (a .r) (not-false _ (i .if1 .left)) (x .result) (x .ensures s) (w .last .0) (e .if2 .left) (w .ensures)
 
 pub handle-map-spec : {M : Type 1} → statement M

@@ -9,7 +9,7 @@ use Rattle.call_request.proofs.request.Statement.{statement}
 use Rattle.call_request.proofs.request.Tie as tie
 
 abbrev start : tie.After-check-job → tie.Start
-start c = c .before .before .before .before .before .before .before .before .before .before .before .before .before .before .before .before .before
+start c = c .before .before .before .before .before .before .before .before .before .before .before .before .before .before .before .before .before .before
 
 returns : tie.Need-returns
 returns c =
@@ -21,7 +21,7 @@ returns c =
 returns-2 : tie.Need-returns-2
 returns-2 c =
     let x = c .before .before .before .before .serve in
-    let e = c .before .before .before .before .before .before .before .before .before .before .before .before .before .before in
+    let e = c .before .before .before .before .before .before .before .before .before .before .before .before .before .before .before in
     let passed = e .enum-told .given .1 in
     let k = e .before .before .check-job in
     let a = start (e .before .before) .args in

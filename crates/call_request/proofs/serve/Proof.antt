@@ -1,37 +1,61 @@
 -- `call_request::serve` meets its contract. Assumes nothing.
 use borrow.Author.Needs.{needs}
-use Rattle.state_fields.specs.Fields.{withSettings, withEndpoints}
-use Rattle.refinement.specs.Flat.{device}
-use Rattle.call_request.proofs.Served.{serve-number, serve-refused, serve-works}
+use lib.ListN.{length}
+use Rattle.rules.specs.declared.State.{State}
+use Rattle.rules.specs.State.{Device}
+use Rattle.call_request.specs.Answered.{lent}
+use Rattle.call_request.proofs.Served.{serve-number, serve-refused, status-fits, serve-works}
 use Rattle.call_request.proofs.serve.Statement.{statement}
 use Rattle.call_request.proofs.serve.Tie as tie
 
-returns : tie.Need-returns
-returns c s =
-    let a = c .before .before .before .before .before .before .args in
-    let here = withSettings (a .settings) (withEndpoints (a .listed) (a .endpoints .now) (a .owners .now) (a .attached .now) (a .domains .now) (a .live) s) in
-    serve-number (device here (a .t .now)) (a .g) (a .readable .now) (a .writable .now) (c .if1 .taken)
+-- the device that is lent
+abbrev here : tie.Start → State → Device
+here c s =
+    let a = c .args in
+    lent (a .settings) (a .listed) (a .live) (a .endpoints .now) (a .owners .now) (a .attached .now) (a .domains .now) (a .regions .now) (a .t .now) s
 
-returns-2 : tie.Need-returns-2
-returns-2 c s =
+abbrev start : tie.Else1 → tie.Start
+start c = c .before .before .before .before .before .before
+
+no-guest : tie.Need-returns
+no-guest c s =
+    let a = c .before .before .before .before .before .before in
+    serve-number (here a s) (a .args .g) (a .args .readable .now) (a .args .writable .now) (c .if1 .taken)
+
+refused : tie.Need-returns-2
+refused c s =
     let q = c .before .q .given in
     let p = c .before .before .before .parse in
     let i = c .before .before .before .before in
-    let a = i .before .before .before .before .before .before .args in
-    let here = withSettings (a .settings) (withEndpoints (a .listed) (a .endpoints .now) (a .owners .now) (a .attached .now) (a .domains .now) (a .live) s) in
-    serve-refused (device here (a .t .now)) (a .g) (a .readable .now) (a .writable .now) (i .if1 .left) (p .result) (p .ensures) (q .0 .0) (q .1)
+    let a = start i in
+    serve-refused (here a s) (a .args .g) (a .args .readable .now) (a .args .writable .now) (i .if1 .left) (p .result) (p .ensures) (q .0 .0) (q .1)
 
-returns-3 : tie.Need-returns-3
-returns-3 c s =
-    let w = c .before .before .put-status in
-    let h = c .before .before .before .before .before .before .handle in
-    let k = c .before .before .before .before .before .before .before .before .before .before in
+answer-requires : tie.Need-answer-requires
+answer-requires c κs =
+    let k = c .before .before .before .before in
     let p = k .before .parse in
     let i = k .before .before in
-    let a = i .before .before .before .before .before .before .args in
-    let here = withSettings (a .settings) (withEndpoints (a .listed) (a .endpoints .now) (a .owners .now) (a .attached .now) (a .domains .now) (a .live) s) in
-    let next = withSettings (a .settings) (withEndpoints (a .listed) (a .endpoints .now) (a .owners .now) (h .last .1 .1 .1 .1 .1 .0) (h .last .1 .1 .1 .1 .1 .1 .0) (h .result .live) s) in
-    serve-works (device here (a .t .now)) (a .g) (a .readable .now) (a .writable .now) (i .if1 .left) (p .result) (p .ensures) (h .result .status) (device next (h .last .1 .1 .1 .1 .1 .1 .1 .0)) (w .last .0) (k .match .keys2) (h .ensures s) (w .ensures)
+    let a = start i in
+    status-fits (p .result) (a .args .readable .now) (length (a .args .writable .now)) (p .ensures) (k .match .keys2)
+
+answered : tie.Need-returns-3
+answered c s =
+    let h = c .before .before .before .before in
+    let k = h .before .before .before .before .before in
+    let p = k .before .parse in
+    let i = k .before .before in
+    let a = start i in
+    serve-works (here a s) (a .args .g) (a .args .readable .now) (a .args .writable .now) (i .if1 .left) (p .result) (p .ensures) (h .answer .result .status) _ _ (k .match .keys2) (h .answer .ensures s)
 
 pub serve-spec : {M : Type 1} → statement M
-serve-spec = tie.close (tie.spec (λ c. search needs) returns (λ c κs. search needs) (λ c. search needs) returns-2 (λ c κs. search needs) (λ c κs. search needs) (λ c. search needs) (λ c. search needs) returns-3)
+serve-spec =
+    tie.close
+    (tie.spec
+    (λ c. search needs)
+    no-guest
+    (λ c κs. search needs)
+    (λ c. search needs)
+    refused
+    answer-requires
+    (λ c. search needs) (λ c. search needs)
+    answered)

@@ -1,9 +1,9 @@
--- `call_attach::detach_status` meets its contract. Assumes nothing.
+-- `call_attach::detach::detach_status` meets its contract. Assumes nothing.
 use borrow.Author.Needs.{needs}
 use mathlib.Core.Path.{_∙_}
 use Rattle.refinement.specs.Flat.{detachStatus}
-use Rattle.call_attach.proofs.detach_status.Statement.{statement}
-use Rattle.call_attach.proofs.detach_status.Tie as tie
+use Rattle.call_attach.proofs.detach.detach_status.Statement.{statement}
+use Rattle.call_attach.proofs.detach.detach_status.Tie as tie
 
 returns : tie.Need-returns
 unfolding detachStatus

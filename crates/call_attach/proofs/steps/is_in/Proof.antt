@@ -1,7 +1,7 @@
--- `call_attach::is_in` meets its contract. Assumes nothing.
+-- `call_attach::steps::is_in` meets its contract. Assumes nothing.
 use borrow.Author.Needs.{needs}
-use Rattle.call_attach.proofs.is_in.Statement.{statement}
-use Rattle.call_attach.proofs.is_in.Tie as tie
+use Rattle.call_attach.proofs.steps.is_in.Statement.{statement}
+use Rattle.call_attach.proofs.steps.is_in.Tie as tie
 
 returns : tie.Need-returns
 returns c = rw (c .before .before .before .before .flag-at .ensures, c .before .before .domain-at .ensures)

@@ -1,9 +1,9 @@
--- `call_attach::handle_detach` meets its contract. Assumes nothing.
+-- `call_attach::detach::handle_detach` meets its contract. Assumes nothing.
 use borrow.Author.Needs.{needs}
 use Rattle.state_fields.specs.Fields.{withEndpoints}
 use Rattle.call_attach.proofs.Settling.{detach-fails, detach-works}
-use Rattle.call_attach.proofs.handle_detach.Statement.{statement}
-use Rattle.call_attach.proofs.handle_detach.Tie as tie
+use Rattle.call_attach.proofs.detach.handle_detach.Statement.{statement}
+use Rattle.call_attach.proofs.detach.handle_detach.Tie as tie
 
 returns : tie.Need-returns
 returns c s =
