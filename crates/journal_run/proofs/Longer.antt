@@ -12,9 +12,9 @@ use Rattle.laws.specs.Bytes.{leNumber, leField}
 use Rattle.laws.proofs.Tests.{either-way, true-false}
 use Rattle.rules.specs.Sizes.{maxFaults}
 use Rattle.journal_records.specs.declared.Item.{Item}
-use Rattle.journal_records.specs.declared.Item.the-variants.{Cut, Wrong, NamedGuest, NamedEndpoint, Start, Request, AccessBy, Reset, Fetch}
+use Rattle.journal_records.specs.declared.Item.the-variants.{Cut, Wrong, NamedGuest, NamedEndpoint, Start, NamedRegion, Request, Probe, AccessBy, Reset, Fetch}
 use Rattle.journal_session.specs.declared.session.Session.{Session}
-use Rattle.journal_records.specs.Items.{GUEST, ENDPOINT, START, ACCESS, RESET, FETCH, bodyLength, kindOf, sizeOf, requestBytes, itemOf, front, Fits}
+use Rattle.journal_records.specs.Items.{GUEST, ENDPOINT, START, REGION, REQUEST72, ACCESS, RESET, FETCH, bodyLength, kindOf, sizeOf, requestBytes, itemOf, front, Fits}
 use Rattle.journal_session.specs.Steps.{stepOf, stepRecord}
 use Rattle.journal_step.proofs.Reading.{works, front-fits}
 
@@ -30,7 +30,9 @@ isCut Wrong = false
 isCut (NamedGuest f) = false
 isCut (NamedEndpoint e g) = false
 isCut (Start f) = false
+isCut (NamedRegion e q) = false
 isCut (Request g) = false
+isCut (Probe g) = false
 isCut (AccessBy x) = false
 isCut (Reset g) = false
 isCut (Fetch g n) = false
@@ -43,9 +45,11 @@ whole-uncut s =
     either-way Whole (eqb (kindOf s) GUEST) (λ _. refl) (λ _.
     either-way Whole (eqb (kindOf s) ENDPOINT) (λ _. refl) (λ _.
     either-way Whole (eqb (kindOf s) START) (λ _. refl) (λ _.
+    either-way Whole (eqb (kindOf s) REGION) (λ _. refl) (λ _.
+    either-way Whole (eqb (kindOf s) REQUEST72) (λ _. refl) (λ _.
     either-way Whole (eqb (kindOf s) ACCESS) (λ _. either-way Whole (leb (getD s 13 0) 1) (λ _. refl) (λ _. refl)) (λ _.
     either-way Whole (eqb (kindOf s) RESET) (λ _. refl) (λ _.
-    either-way Whole (eqb (kindOf s) FETCH) (λ _. either-way Whole (leb (getD s 2 0) maxFaults) (λ _. refl) (λ _. refl)) (λ _. refl))))))
+    either-way Whole (eqb (kindOf s) FETCH) (λ _. either-way Whole (leb (getD s 2 0) maxFaults) (λ _. refl) (λ _. refl)) (λ _. refl))))))))
 
 module _ (s rest : List ℕ) where
   field-more : (k n : ℕ) → k + n ≤ length s → leField k n (s ++ rest) ≡ leField k n s
@@ -78,13 +82,17 @@ module _ (s rest : List ℕ) where
       (λ e. let l = o ENDPOINT e in rw (field-more 1 4 (omega arith), at-more 5 (omega arith)))
       (λ _. same-choice (eqb (kindOf s) START) _ _ _ _
       (λ e. let l = o START e in rw (field-more 1 8 (omega arith), field-more 9 8 (omega arith), field-more 17 8 (omega arith), field-more 25 4 (omega arith), field-more 29 4 (omega arith)))
+      (λ _. same-choice (eqb (kindOf s) REGION) _ _ _ _
+      (λ e. let l = o REGION e in rw (field-more 1 4 (omega arith), at-more 5 (omega arith), field-more 6 8 (omega arith), field-more 14 8 (omega arith)))
+      (λ _. same-choice (eqb (kindOf s) REQUEST72) _ _ _ _
+      (λ e. let l = o REQUEST72 e in rw (at-more 1 (omega arith)))
       (λ _. same-choice (eqb (kindOf s) ACCESS) _ _ _ _
       (λ e. let l = o ACCESS e in rw (field-more 1 4 (omega arith), field-more 5 8 (omega arith), at-more 13 (omega arith)))
       (λ _. same-choice (eqb (kindOf s) RESET) _ _ _ _
       (λ e. let l = o RESET e in rw (at-more 1 (omega arith)))
       (λ _. same-choice (eqb (kindOf s) FETCH) _ _ _ _
       (λ e. let l = o FETCH e in rw (at-more 1 (omega arith), at-more 2 (omega arith)))
-      (λ _. let l = f .1 in let m = f .2 in rw (at-more 1 (omega arith)))))))))
+      (λ _. let l = f .1 in let m = f .2 in rw (at-more 1 (omega arith)))))))))))
 
   front-more : isCut (front s) ≡ false → front (s ++ rest) ≡ front s
   unfolding front
@@ -115,7 +123,9 @@ module _ (s rest : List ℕ) where
     item-more (NamedGuest x) f = rw (size-more (f refl .0))
     item-more (NamedEndpoint e g) f = rw (size-more (f refl .0))
     item-more (Start x) f = rw (size-more (f refl .0))
+    item-more (NamedRegion e q) f = rw (size-more (f refl .0))
     item-more (Request g) f = rw (request-more (f refl), size-more (f refl .0))
+    item-more (Probe g) f = rw (request-more (f refl), size-more (f refl .0))
     item-more (AccessBy x) f = rw (size-more (f refl .0))
     item-more (Reset g) f = rw (size-more (f refl .0))
     item-more (Fetch g n) f = rw (size-more (f refl .0))

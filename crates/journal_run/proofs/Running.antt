@@ -10,9 +10,9 @@ use Rattle.laws.proofs.Tables.{length-tab}
 use Rattle.rules.specs.declared.Guest.{Guest}
 use Rattle.rules.specs.declared.Access.{Access}
 use Rattle.rules.specs.declared.State.{State}
-use Rattle.rules.specs.Sizes.{faultSize, statusSize}
+use Rattle.rules.specs.Sizes.{faultSize, statusSize, probeSize}
 use Rattle.rules.specs.Configuration.{Config, windowLast}
-use Rattle.rules.specs.State.{World, Device, Lengths, configOf, trimmed, stateOf, write}
+use Rattle.rules.specs.State.{World, Device, Lengths, configOf, trimmed, trimmedRegions, stateOf, write}
 use Rattle.rules.specs.Device.{request, reset, fetch, Call, of-guest, access-by, Reply, numbered, caller, performed, step}
 use Rattle.rules.specs.Sound.{sound}
 use Rattle.rules.proofs.Claims.{calls-keep-sound}
@@ -23,11 +23,11 @@ use Rattle.refinement.proofs.Resetting.{reset-is-step}
 use Rattle.refinement.proofs.Fetching.{fetch-is-step}
 use Rattle.call_access.proofs.Stepping.{access-answered}
 use Rattle.journal_records.specs.declared.Item.{Item}
-use Rattle.journal_records.specs.declared.Item.the-variants.{Cut, Wrong, NamedGuest, NamedEndpoint, Start, Request, AccessBy, Reset, Fetch}
+use Rattle.journal_records.specs.declared.Item.the-variants.{Cut, Wrong, NamedGuest, NamedEndpoint, Start, NamedRegion, Request, Probe, AccessBy, Reset, Fetch}
 use Rattle.journal_records.specs.Items.{front, requestBytes}
 use Rattle.journal_session.specs.declared.session.Session.{Session}
 use Rattle.journal_session.specs.declared.session.StepResult.{StepResult}
-use Rattle.journal_session.specs.Steps.{unread, sessionDevice, fetchedStep, running, stepOf, stepRecord, requestedStep, accessedStep, clearedStep}
+use Rattle.journal_session.specs.Steps.{unread, sessionDevice, fetchedStep, running, stepOf, stepRecord, requestedStep, probedStep, accessedStep, clearedStep}
 use Rattle.journal_session.specs.Matching.{Matches}
 use Rattle.journal_session.proofs.Matching.{matches-silent}
 use Rattle.journal_run.specs.declared.calls.RunStep.{RunStep}
@@ -44,7 +44,7 @@ runs p e = ap (λ (z : Bool). record { started = z; state = p .state }) (sym e)
 
 -- what is written has the lengths of a state's arrays
 write-shaped : (c : Config) (w : World) → Lengths (write c w .state)
-unfolding write stateOf trimmed
+unfolding write stateOf trimmed trimmedRegions
 write-shaped c w =
     record {
       shares = length-tab _ _;
@@ -54,6 +54,7 @@ write-shaped c w =
       owners = length-tab _ _;
       attached = length-tab _ _;
       domains = length-tab _ _;
+      regions = length-tab _ _;
       logged = length-tab _ _;
       lost = length-tab _ _;
       reasons = length-tab _ _;
@@ -85,7 +86,9 @@ module _ (s : State) (t b : List ℕ) (h : Ready (device s t)) where
   item-keeps (NamedGuest f) = h
   item-keeps (NamedEndpoint e g) = h
   item-keeps (Start f) = h
+  item-keeps (NamedRegion e q) = h
   item-keeps (Request g) = call-keeps (device s t) h (of-guest g (request (requestBytes b) (replicate statusSize 0)))
+  item-keeps (Probe g) = call-keeps (device s t) h (of-guest g (request (requestBytes b) (replicate probeSize 0)))
   item-keeps (AccessBy a) = call-keeps (device s t) h (access-by a)
   item-keeps (Reset g) = call-keeps (device s t) h (of-guest g reset)
   item-keeps (Fetch g n) = call-keeps (device s t) h (of-guest g (fetch (replicate (faultSize * n) 0)))
@@ -110,6 +113,10 @@ module _ (s : State) (t b : List ℕ) {r : StepResult} {words out left : List �
     pub told-request : (g : Guest) → front b ≡ Request g → Matches r words out left k (requestedStep b (serve (device s t) g (requestBytes b) (replicate statusSize 0))) → Matches r words out left k (stepRecord (running s) t b)
     unfolding stepOf
     told-request g e x = told-item e (subst (λ (y : Reply × Device). Matches r words out left k (requestedStep b y)) (request-step (device s t) (h .on) (h .shape) g (requestBytes b) (replicate statusSize 0)) x)
+
+    pub told-probe : (g : Guest) → front b ≡ Probe g → Matches r words out left k (probedStep b (serve (device s t) g (requestBytes b) (replicate probeSize 0))) → Matches r words out left k (stepRecord (running s) t b)
+    unfolding stepOf
+    told-probe g e x = told-item e (subst (λ (y : Reply × Device). Matches r words out left k (probedStep b y)) (request-step (device s t) (h .on) (h .shape) g (requestBytes b) (replicate probeSize 0)) x)
 
     pub told-access : ((i : ℕ) → windowLast (s .settings) i ≤ 18446744073709551615) → (a : Access) → front b ≡ AccessBy a → Matches r words out left k (accessedStep b (accessWhole (device s t) a)) → Matches r words out left k (stepRecord (running s) t b)
     unfolding stepOf

@@ -13,10 +13,11 @@ use Rattle.laws.proofs.Tests.{either-way, true-false}
 use Rattle.rules.specs.Sizes.{maxGuests, maxEndpoints}
 use Rattle.journal_line_plain.specs.Plain.{badLine, endLine}
 use Rattle.journal_records.specs.declared.Item.{Item}
-use Rattle.journal_records.specs.declared.Item.the-variants.{Cut, Wrong, NamedGuest, NamedEndpoint, Start, Request, AccessBy, Reset, Fetch}
+use Rattle.journal_records.specs.declared.Item.the-variants.{Cut, Wrong, NamedGuest, NamedEndpoint, Start, NamedRegion, Request, Probe, AccessBy, Reset, Fetch}
 use Rattle.journal_session.specs.declared.session.Session.{Session}
 use Rattle.journal_records.specs.Items.{sizeOf, front}
-use Rattle.journal_session.specs.Steps.{recordRoom, RecordStep, unread, allowed, guestStep, endpointStep, startStep, requestStep, accessStep, resetStep, fetchStep, stepOf, stepRecord}
+use Rattle.journal_session.specs.Naming.{regionTaken}
+use Rattle.journal_session.specs.Steps.{recordRoom, RecordStep, unread, allowed, guestStep, endpointStep, startStep, regionStep, requestStep, probeStep, accessStep, resetStep, fetchStep, stepOf, stepRecord}
 use Rattle.journal_run.specs.Journal.{outputFor, outputFrom, joined, playedFor, played, Streams}
 use Rattle.journal_records.proofs.Fields.{front-none}
 use Rattle.journal_step.proofs.Reading.{step-reads}
@@ -41,7 +42,10 @@ module _ (p : Session) (t s : List ℕ) where
   is-unread (NamedGuest x) h = may-be-unread (not (p .started) && ltb (p .state .settings .guests) maxGuests) (NamedGuest x) (guestStep p t s x) refl refl h
   is-unread (NamedEndpoint e g) h = may-be-unread (not (p .started) && ltb (p .state .listed) maxEndpoints) (NamedEndpoint e g) (endpointStep p t s e g) refl refl h
   is-unread (Start x) h = may-be-unread (not (p .started)) (Start x) (startStep p t s x) refl refl h
+  is-unread (NamedRegion e q) h =
+      may-be-unread (not (p .started) && regionTaken (p .state .listed) (p .state .endpoints) (p .state .regions) e) (NamedRegion e q) (regionStep p t s e q) refl refl h
   is-unread (Request g) h = may-be-unread (p .started) (Request g) (requestStep p t s g) refl refl h
+  is-unread (Probe g) h = may-be-unread (p .started) (Probe g) (probeStep p t s g) refl refl h
   is-unread (AccessBy x) h = may-be-unread (p .started) (AccessBy x) (accessStep p t s x) refl refl h
   is-unread (Reset g) h = may-be-unread (p .started) (Reset g) (resetStep p t s g) refl refl h
   is-unread (Fetch g n) h = may-be-unread (p .started) (Fetch g n) (fetchStep p t s g n) refl refl h
@@ -58,7 +62,9 @@ cut-item p t s Wrong h = true-false false h refl
 cut-item p t s (NamedGuest f) h = true-false false h refl
 cut-item p t s (NamedEndpoint e g) h = true-false false h refl
 cut-item p t s (Start f) h = true-false false h refl
+cut-item p t s (NamedRegion e q) h = true-false false h refl
 cut-item p t s (Request g) h = true-false false h refl
+cut-item p t s (Probe g) h = true-false false h refl
 cut-item p t s (AccessBy x) h = true-false false h refl
 cut-item p t s (Reset g) h = true-false false h refl
 cut-item p t s (Fetch g n) h = true-false false h refl

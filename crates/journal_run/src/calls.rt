@@ -6,10 +6,10 @@ ghost use Prim.Native.Nat.{ℕ, _+_, _*_, _≤_};
 ghost use lib.ListN.{length, replicate};
 ghost use Rattle.journal_records.specs.Items.{Fits, sizeOf, requestBytes};
 ghost use Rattle.rules.specs.declared.State.{State};
-ghost use Rattle.rules.specs.Sizes.{maxFaults, faultSize, statusSize};
-ghost use Rattle.state_fields.specs.Fields.{withSettings, withEndpoints, withLive, withLogs};
+ghost use Rattle.rules.specs.Sizes.{maxFaults, faultSize, statusSize, probeSize};
+ghost use Rattle.state_fields.specs.Fields.{withSettings, withEndpoints, withRegions, withLive, withLogs};
 ghost use Rattle.refinement.specs.Flat.{device};
-ghost use Rattle.journal_session.specs.Steps.{recordRoom, requestedStep, accessedStep, clearedStep, fetchedStep};
+ghost use Rattle.journal_session.specs.Steps.{recordRoom, requestedStep, probedStep, accessedStep, clearedStep, fetchedStep};
 ghost use Rattle.journal_session.specs.Matching.{Matches};
 ghost use Rattle.refinement.specs.Requesting.{serve};
 ghost use Rattle.refinement.specs.Translating.{accessWhole};
@@ -24,6 +24,7 @@ use journal_line_call::put_access;
 use journal_line_call::put_request;
 use journal_line_fetch::put_fetch;
 use journal_line_plain::put_number;
+use journal_line_probe::put_probe;
 use rules::Access;
 use rules::Guest;
 use rules::Settings;
@@ -32,6 +33,8 @@ use rules::sizes::FAULT_SIZE;
 use rules::sizes::MAX_ENDPOINTS;
 use rules::sizes::MAX_FAULTS;
 use rules::sizes::MAX_GUESTS;
+use rules::sizes::PROBE_SIZE;
+use rules::sizes::REGION_PLACES;
 use rules::sizes::STATUS_SIZE;
 
 // What records leave besides the lent arrays: how many mappings are live, the bytes read (0 where no record is worked) and
@@ -64,6 +67,7 @@ pub(crate) fn work_request<'a>(
     owners: &'a [u8; MAX_ENDPOINTS],
     attached: &'a mut [u8; MAX_ENDPOINTS],
     domains: &'a mut [u32; MAX_ENDPOINTS],
+    regions: &'a [u64; REGION_PLACES],
     t: &'a mut [u64],
     b: &'a [u8],
     g: Guest,
@@ -72,9 +76,9 @@ pub(crate) fn work_request<'a>(
 ) -> RunStep
     requires { ⌜ Fits (now b) × (at + recordRoom ≤ length (now out)) ⌝ }
     ensures { λ r. ⌜ ((s : State) → Matches
-        (ranTo (withSettings settings (withEndpoints listed (now (endpoints .entry)) (now (owners .entry)) (now (attached .exit)) (now (domains .exit)) (r .live) s)) r)
+        (ranTo (withRegions (now (regions .entry)) (withSettings settings (withEndpoints listed (now (endpoints .entry)) (now (owners .entry)) (now (attached .exit)) (now (domains .exit)) (r .live) s))) r)
         (now (t .exit)) (now (out .entry)) (now (out .exit)) at
-        (requestedStep (now (b .entry)) (serve (device (withSettings settings (withEndpoints listed (now (endpoints .entry)) (now (owners .entry)) (now (attached .entry)) (now (domains .entry)) live s)) (now (t .entry))) g (requestBytes (now (b .entry))) (replicate statusSize 0)))) ⌝ }
+        (requestedStep (now (b .entry)) (serve (device (withRegions (now (regions .entry)) (withSettings settings (withEndpoints listed (now (endpoints .entry)) (now (owners .entry)) (now (attached .entry)) (now (domains .entry)) live s))) (now (t .entry))) g (requestBytes (now (b .entry))) (replicate statusSize 0)))) ⌝ }
 {
     let n = journal_records::size_of(b);
     let mut writable: [u8; STATUS_SIZE] = [0; STATUS_SIZE];
@@ -86,6 +90,7 @@ pub(crate) fn work_request<'a>(
         owners,
         attached,
         domains,
+        regions,
         t,
         g,
         &b[2..n],
@@ -93,6 +98,49 @@ pub(crate) fn work_request<'a>(
     );
     let answer = x.answer;
     let k = put_request(out, at, answer, &writable);
+    consumed(x.live, b, k)
+}
+
+// A request, with a writable part that has room for properties.
+pub(crate) fn work_probe<'a>(
+    settings: Settings,
+    listed: usize,
+    live: usize,
+    endpoints: &'a [u32; MAX_ENDPOINTS],
+    owners: &'a [u8; MAX_ENDPOINTS],
+    attached: &'a mut [u8; MAX_ENDPOINTS],
+    domains: &'a mut [u32; MAX_ENDPOINTS],
+    regions: &'a [u64; REGION_PLACES],
+    t: &'a mut [u64],
+    b: &'a [u8],
+    g: Guest,
+    out: &'a mut [u8],
+    at: usize,
+) -> RunStep
+    requires { ⌜ Fits (now b) × (at + recordRoom ≤ length (now out)) ⌝ }
+    ensures { λ r. ⌜ ((s : State) → Matches
+        (ranTo (withRegions (now (regions .entry)) (withSettings settings (withEndpoints listed (now (endpoints .entry)) (now (owners .entry)) (now (attached .exit)) (now (domains .exit)) (r .live) s))) r)
+        (now (t .exit)) (now (out .entry)) (now (out .exit)) at
+        (probedStep (now (b .entry)) (serve (device (withRegions (now (regions .entry)) (withSettings settings (withEndpoints listed (now (endpoints .entry)) (now (owners .entry)) (now (attached .entry)) (now (domains .entry)) live s))) (now (t .entry))) g (requestBytes (now (b .entry))) (replicate probeSize 0)))) ⌝ }
+{
+    let n = journal_records::size_of(b);
+    let mut writable: [u8; PROBE_SIZE] = [0; PROBE_SIZE];
+    let x = serve(
+        settings,
+        listed,
+        live,
+        endpoints,
+        owners,
+        attached,
+        domains,
+        regions,
+        t,
+        g,
+        &b[2..n],
+        &mut writable,
+    );
+    let answer = x.answer;
+    let k = put_probe(out, at, answer, &writable);
     consumed(x.live, b, k)
 }
 

@@ -29,6 +29,7 @@ fn is_running(p: Session, t: &[u64]) -> bool
         &s.owners,
         &s.attached,
         &s.domains,
+        &s.regions,
         &s.logged,
         &s.lost,
         &s.reasons,

@@ -10,6 +10,7 @@ ghost use Rattle.journal_run.specs.Running.{Ready, ranTo};
 use crate::calls::RunStep;
 use crate::calls::work_access;
 use crate::calls::work_fetch;
+use crate::calls::work_probe;
 use crate::calls::work_request;
 use crate::calls::work_reset;
 use journal_records::Item;
@@ -17,6 +18,7 @@ use rules::Settings;
 use rules::sizes::FAULT_PLACES;
 use rules::sizes::MAX_ENDPOINTS;
 use rules::sizes::MAX_GUESTS;
+use rules::sizes::REGION_PLACES;
 
 // No record is worked.
 fn unread(live: usize, bad: bool) -> RunStep
@@ -39,6 +41,7 @@ pub(crate) fn work_record<'a>(
     owners: &'a [u8; MAX_ENDPOINTS],
     attached: &'a mut [u8; MAX_ENDPOINTS],
     domains: &'a mut [u32; MAX_ENDPOINTS],
+    regions: &'a [u64; REGION_PLACES],
     logged: &'a mut [usize; MAX_GUESTS],
     lost: &'a mut [u32; MAX_GUESTS],
     reasons: &'a mut [u8; FAULT_PLACES],
@@ -51,11 +54,11 @@ pub(crate) fn work_record<'a>(
     at: usize,
 ) -> RunStep
     requires { ⌜ at + recordRoom ≤ length (now out) ⌝ }
-    requires { ⌜ Ready (deviceWith settings listed live (now endpoints) (now owners) (now attached) (now domains) (now logged) (now lost) (now reasons) (now flags) (now sources) (now addresses) (now t)) ⌝ }
+    requires { ⌜ Ready (deviceWith settings listed live (now endpoints) (now owners) (now attached) (now domains) (now regions) (now logged) (now lost) (now reasons) (now flags) (now sources) (now addresses) (now t)) ⌝ }
     ensures { λ r. ⌜ Matches
-        (ranTo (stateWith settings listed (r .live) (now (endpoints .entry)) (now (owners .entry)) (now (attached .exit)) (now (domains .exit)) (now (logged .exit)) (now (lost .exit)) (now (reasons .exit)) (now (flags .exit)) (now (sources .exit)) (now (addresses .exit))) r)
+        (ranTo (stateWith settings listed (r .live) (now (endpoints .entry)) (now (owners .entry)) (now (attached .exit)) (now (domains .exit)) (now (regions .entry)) (now (logged .exit)) (now (lost .exit)) (now (reasons .exit)) (now (flags .exit)) (now (sources .exit)) (now (addresses .exit))) r)
         (now (t .exit)) (now (out .entry)) (now (out .exit)) at
-        (stepRecord (running (stateWith settings listed live (now (endpoints .entry)) (now (owners .entry)) (now (attached .entry)) (now (domains .entry)) (now (logged .entry)) (now (lost .entry)) (now (reasons .entry)) (now (flags .entry)) (now (sources .entry)) (now (addresses .entry)))) (now (t .entry)) (now (b .entry))) ⌝ }
+        (stepRecord (running (stateWith settings listed live (now (endpoints .entry)) (now (owners .entry)) (now (attached .entry)) (now (domains .entry)) (now (regions .entry)) (now (logged .entry)) (now (lost .entry)) (now (reasons .entry)) (now (flags .entry)) (now (sources .entry)) (now (addresses .entry)))) (now (t .entry)) (now (b .entry))) ⌝ }
 {
     match journal_records::front(b) {
         Item::Cut => unread(live, false),
@@ -63,6 +66,7 @@ pub(crate) fn work_record<'a>(
         Item::NamedGuest(_) => unread(live, true),
         Item::NamedEndpoint(_, _) => unread(live, true),
         Item::Start(_) => unread(live, true),
+        Item::NamedRegion(_, _) => unread(live, true),
         Item::Request(g) => work_request(
             settings,
             listed,
@@ -71,6 +75,22 @@ pub(crate) fn work_record<'a>(
             owners,
             attached,
             domains,
+            regions,
+            t,
+            b,
+            g,
+            out,
+            at,
+        ),
+        Item::Probe(g) => work_probe(
+            settings,
+            listed,
+            live,
+            endpoints,
+            owners,
+            attached,
+            domains,
+            regions,
             t,
             b,
             g,

@@ -22,6 +22,7 @@ use rules::State;
 use rules::sizes::FAULT_PLACES;
 use rules::sizes::MAX_ENDPOINTS;
 use rules::sizes::MAX_GUESTS;
+use rules::sizes::REGION_PLACES;
 
 // A place n places on, which is not past the end.
 pub(crate) fn past(at: usize, n: usize, end: usize) -> usize
@@ -40,6 +41,7 @@ fn work_records<'a>(
     owners: &'a [u8; MAX_ENDPOINTS],
     attached: &'a mut [u8; MAX_ENDPOINTS],
     domains: &'a mut [u32; MAX_ENDPOINTS],
+    regions: &'a [u64; REGION_PLACES],
     logged: &'a mut [usize; MAX_GUESTS],
     lost: &'a mut [u32; MAX_GUESTS],
     reasons: &'a mut [u8; FAULT_PLACES],
@@ -50,11 +52,11 @@ fn work_records<'a>(
     b: &'a [u8],
     out: &'a mut [u8],
 ) -> RunStep
-    requires { ⌜ Ready (deviceWith settings listed live (now endpoints) (now owners) (now attached) (now domains) (now logged) (now lost) (now reasons) (now flags) (now sources) (now addresses) (now t)) ⌝ }
+    requires { ⌜ Ready (deviceWith settings listed live (now endpoints) (now owners) (now attached) (now domains) (now regions) (now logged) (now lost) (now reasons) (now flags) (now sources) (now addresses) (now t)) ⌝ }
     ensures { λ r. ⌜ Matches
-        (ranTo (stateWith settings listed (r .live) (now (endpoints .entry)) (now (owners .entry)) (now (attached .exit)) (now (domains .exit)) (now (logged .exit)) (now (lost .exit)) (now (reasons .exit)) (now (flags .exit)) (now (sources .exit)) (now (addresses .exit))) r)
+        (ranTo (stateWith settings listed (r .live) (now (endpoints .entry)) (now (owners .entry)) (now (attached .exit)) (now (domains .exit)) (now (regions .entry)) (now (logged .exit)) (now (lost .exit)) (now (reasons .exit)) (now (flags .exit)) (now (sources .exit)) (now (addresses .exit))) r)
         (now (t .exit)) (now (out .entry)) (now (out .exit)) 0
-        (played (length (now (out .entry))) (running (stateWith settings listed live (now (endpoints .entry)) (now (owners .entry)) (now (attached .entry)) (now (domains .entry)) (now (logged .entry)) (now (lost .entry)) (now (reasons .entry)) (now (flags .entry)) (now (sources .entry)) (now (addresses .entry)))) (now (t .entry)) (now (b .entry))) ⌝ }
+        (played (length (now (out .entry))) (running (stateWith settings listed live (now (endpoints .entry)) (now (owners .entry)) (now (attached .entry)) (now (domains .entry)) (now (regions .entry)) (now (logged .entry)) (now (lost .entry)) (now (reasons .entry)) (now (flags .entry)) (now (sources .entry)) (now (addresses .entry)))) (now (t .entry)) (now (b .entry))) ⌝ }
 {
     let mut count = live;
     let mut read: usize = 0;
@@ -68,6 +70,7 @@ fn work_records<'a>(
             owners,
             attached,
             domains,
+            regions,
             logged,
             lost,
             reasons,
@@ -121,6 +124,7 @@ pub(crate) fn run(s: State, t: &mut [u64], b: &[u8], out: &mut [u8]) -> StepResu
         &s.owners,
         &mut attached,
         &mut domains,
+        &s.regions,
         &mut logged,
         &mut lost,
         &mut reasons,

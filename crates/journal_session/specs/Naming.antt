@@ -1,16 +1,17 @@
 -- The configuration that a journal names before its start. It is gathered in the places of the state that set-up would fill.
-use Prim.Native.Nat.{ℕ, suc, _+_, _*_}
+use Prim.Native.Nat.{ℕ, suc, _+_, _*_, _<_, _≤_}
+use mathlib.Core.Path.{_≡_}
 use mathlib.Core.Bool.{Bool, _&&_}
-use mathlib.Core.List.{List}
+use mathlib.Core.List.{List, [], _∷_, _++_}
 use lib.Dec.{ltb}
 use lib.ListN.{length, take, set}
-use Rattle.rules.specs.Sizes.{maxRegions, regionWords, endpointRegionWords}
+use Rattle.rules.specs.Sizes.{maxEndpoints, maxRegions, regionWords, endpointRegionWords, regionPlaces}
 use Rattle.rules.specs.declared.Guest.{Guest}
 use Rattle.rules.specs.declared.Endpoint.{Endpoint}
 use Rattle.rules.specs.declared.Region.{Region}
 use Rattle.rules.specs.declared.Settings.{Settings}
 use Rattle.rules.specs.declared.State.{State}
-use Rattle.rules.specs.Configuration.{regionCount}
+use Rattle.rules.specs.Configuration.{regionCount, regionsAt}
 use Rattle.state_endpoints.specs.Search.{indexOf}
 use Rattle.state_fields.specs.Fields.{withGuests, withRanges, withLists}
 use Rattle.journal_records.specs.declared.GuestFields.{GuestFields}
@@ -46,6 +47,18 @@ regionTaken n endpoints words e =
 -- one region more, after those that its endpoint has
 unfoldable pub regionNamed : ℕ → List ℕ → List ℕ → Endpoint → Region → List ℕ
 regionNamed n endpoints words e q = regionPut (namedPlace n endpoints e) (regionCount words (namedPlace n endpoints e)) q words
+
+-- a region that is named is the last of its endpoint's regions, "in set-up order"
+abbrev pub NamedLast : Type 0
+NamedLast =
+    (i : ℕ) (q : Region) (words : List ℕ) → length words ≡ regionPlaces → i < maxEndpoints → regionCount words i < maxRegions
+    → regionsAt (regionPut i (regionCount words i) q words) i ≡ regionsAt words i ++ (q ∷ [])
+
+-- and the regions of any other endpoint stay
+abbrev pub OthersStay : Type 0
+OthersStay =
+    (i k : ℕ) (q : Region) (words : List ℕ) → (k ≡ i → ⊥) → regionCount words i < maxRegions → regionCount words k ≤ maxRegions
+    → regionsAt (regionPut i (regionCount words i) q words) k ≡ regionsAt words k
 
 -- the mask and the two ranges that a start names
 abbrev pub rangesNamed : StartFields → Settings → Settings

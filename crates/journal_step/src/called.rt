@@ -13,6 +13,7 @@ ghost use Rattle.journal_session.specs.Matching.{stepResult, Matches};
 use journal_line_call::put_access;
 use journal_line_call::put_request;
 use journal_line_fetch::put_fetch;
+use journal_line_probe::put_probe;
 use journal_records::StartFields;
 use journal_session::naming;
 use journal_session::results::consumed;
@@ -25,6 +26,7 @@ use rules::Guest;
 use rules::State;
 use rules::sizes::FAULT_SIZE;
 use rules::sizes::MAX_FAULTS;
+use rules::sizes::PROBE_SIZE;
 use rules::sizes::STATUS_SIZE;
 
 // What a call leaves that has given this: its record is worked, and k bytes are printed.
@@ -75,6 +77,29 @@ pub(crate) fn request(
     let given = call_request::request(p.state, t, g, &s[2..n], &mut writable);
     let answer = given.answer;
     let k = put_request(out, at, answer, &writable);
+    finished(given, s, k)
+}
+
+// A request, with a writable part that has room for properties.
+pub(crate) fn probe(
+    p: Session,
+    t: &mut [u64],
+    s: &[u8],
+    g: Guest,
+    out: &mut [u8],
+    at: usize,
+) -> StepResult
+    requires { ⌜ Fits (now s) × (at + recordRoom ≤ length (now out)) ⌝ }
+    ensures { λ r. ⌜ Matches r (now (t .exit)) (now (out .entry)) (now (out .exit)) at (stepOf p (now (t .entry)) (now (s .entry)) (item.Probe g)) ⌝ }
+{
+    if !p.started {
+        return unread(p, true);
+    }
+    let n = journal_records::size_of(s);
+    let mut writable: [u8; PROBE_SIZE] = [0; PROBE_SIZE];
+    let given = call_request::request(p.state, t, g, &s[2..n], &mut writable);
+    let answer = given.answer;
+    let k = put_probe(out, at, answer, &writable);
     finished(given, s, k)
 }
 

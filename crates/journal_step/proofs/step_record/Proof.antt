@@ -50,11 +50,17 @@ request-requires c κs =
     let f = g .before .before in
     (front-fits (start f .args .s .now) (ap works (is f (g .g .given .1))), room f)
 
+probe-requires : tie.Need-probe-requires
+probe-requires c κs =
+    let g = c .before .before .before in
+    let f = g .before .before in
+    (front-fits (start f .args .s .now) (ap works (is f (g .g2 .given .1))), room f)
+
 fetch-requires : tie.Need-fetch-requires
 fetch-requires c κs =
     let g = c .before .before .before in
     let f = g .before .before in
-    (rw (is f (g .g3 .given .1)) at (asks-few (start f .args .s .now)), room f)
+    (rw (is f (g .g4 .given .1)) at (asks-few (start f .args .s .now)), room f)
 
 pub step-record-spec : {M : Type 1} → statement M
 step-record-spec =
@@ -69,21 +75,26 @@ step-record-spec =
     (λ c. c .match .keys3) (λ c κs. tt)
     (λ c. c .match .keys4) (λ c κs. tt)
     (λ c. c .match .keys5) (λ c κs. room (c .before .before .before .before .before))
-    (λ c. c .match .keys6) request-requires
-    (λ c. c .match .keys7) (λ c κs. room (c .before .before .before .before .before))
-    (λ c. c .match .keys8) (λ c κs. room (c .before .before .before .before .before))
-    (λ c. c .match .keys9) fetch-requires
+    (λ c. c .match .keys6) (λ c κs. tt)
+    (λ c. c .match .keys7) request-requires
+    (λ c. c .match .keys8) probe-requires
+    (λ c. c .match .keys9) (λ c κs. room (c .before .before .before .before .before))
+    (λ c. c .match .keys10) (λ c κs. room (c .before .before .before .before .before))
+    (λ c. c .match .keys11) fetch-requires
     (λ c. unfold stepOf in told (c .before .before .before) (c .before .enum-told .given .1) (matches-silent (c .unread2 .ensures)))
     (λ c. unfold stepOf in told (c .before .before .before) (c .before .enum-told2 .given .1) (matches-silent (c .unread3 .ensures)))
     (λ c. let i = c .before .before in told (i .before .before) (i .f .given .1) (c .guest .ensures _ _ _))
     (λ c. let i = c .before .before in told (i .before .before) (i .e .given .1) (c .endpoint .ensures _ _ _))
     (λ c. search needs) (λ c. search needs)
     (λ c. let i = c .before .before .before .before .before .before .before .before in told (i .before .before) (i .f2 .given .1) (c .before .before .before .before .start .ensures))
+    (λ c. let i = c .before .before in told (i .before .before) (i .e2 .given .1) (c .region .ensures _ _ _))
     (λ c. search needs) (λ c. search needs)
     (λ c. let i = c .before .before .before .before .before .before .before .before in told (i .before .before) (i .g .given .1) (c .before .before .before .before .request .ensures))
     (λ c. search needs) (λ c. search needs)
+    (λ c. let i = c .before .before .before .before .before .before .before .before in told (i .before .before) (i .g2 .given .1) (c .before .before .before .before .probe .ensures))
+    (λ c. search needs) (λ c. search needs)
     (λ c. let i = c .before .before .before .before .before .before in told (i .before .before) (i .a .given .1) (c .before .before .access .ensures))
     (λ c. search needs) (λ c. search needs)
-    (λ c. let i = c .before .before .before .before .before .before .before .before in told (i .before .before) (i .g2 .given .1) (c .before .before .before .before .reset .ensures))
+    (λ c. let i = c .before .before .before .before .before .before .before .before in told (i .before .before) (i .g3 .given .1) (c .before .before .before .before .reset .ensures))
     (λ c. search needs) (λ c. search needs)
-    (λ c. let i = c .before .before .before .before .before .before in told (i .before .before) (i .g3 .given .1) (c .before .before .fetch .ensures)))
+    (λ c. let i = c .before .before .before .before .before .before in told (i .before .before) (i .g4 .given .1) (c .before .before .fetch .ensures)))

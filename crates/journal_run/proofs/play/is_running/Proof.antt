@@ -13,7 +13,7 @@ returns c = let a = c .before .before .before .args in sym (ap (λ (z : Bool). z
 
 returns-2 : tie.Need-returns-2
 returns-2 c =
-    let i = c .before .before .before .before .before .before .before .before .before .before .before .before .before .before in
+    let i = c .before .before .before .before .before .before .before .before .before .before .before .before .before .before .before in
     let a = i .before .before .before .args in
     c .is-sound .ensures .0 ∙ sym (ap (λ (z : Bool). z && sound (device (a .p .state) (a .t .now))) (not-false (a .p .started) (i .if1 .left)))
 

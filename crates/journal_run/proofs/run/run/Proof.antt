@@ -7,7 +7,7 @@ use Rattle.journal_run.proofs.run.run.Tie as tie
 -- the types of the state's arrays fix their lengths
 ready : tie.Need-work-records-requires
 ready c κs =
-    let st = c .before .before .before .before .before .before .before .before .before .before .before .before .before .before .before .before .before .before .before .before .before .before .before .before .before in
+    let st = c .before .before .before .before .before .before .before .before .before .before .before .before .before .before .before .before .before .before .before .before .before .before .before .before .before .before in
     record { on = st .pre; shape = lengths-hold (st .args .t1) _ (st .good .0) }
 
 pub run-spec : {M : Type 1} → statement M

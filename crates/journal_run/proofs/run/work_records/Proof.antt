@@ -20,13 +20,13 @@ use Rattle.journal_run.proofs.run.work_records.Statement.{statement}
 use Rattle.journal_run.proofs.run.work_records.Tie as tie
 
 abbrev Inv-loop : tie.InvT-loop
-Inv-loop settings listed live endpoints owners attached₀ domains₀ logged₀ lost₀ reasons₀ flags₀ sources₀ addresses₀ t₀ b out₀ count₀ read₀ printed₀ attached domains logged lost reasons flags sources addresses t out count read printed =
-    Went (running (stateWith settings listed live endpoints owners attached₀ domains₀ logged₀ lost₀ reasons₀ flags₀ sources₀ addresses₀)) t₀ b out₀ (running (stateWith settings listed count endpoints owners attached domains logged lost reasons flags sources addresses)) t out read printed
+Inv-loop settings listed live endpoints owners attached₀ domains₀ regions logged₀ lost₀ reasons₀ flags₀ sources₀ addresses₀ t₀ b out₀ count₀ read₀ printed₀ attached domains logged lost reasons flags sources addresses t out count read printed =
+    Went (running (stateWith settings listed live endpoints owners attached₀ domains₀ regions logged₀ lost₀ reasons₀ flags₀ sources₀ addresses₀)) t₀ b out₀ (running (stateWith settings listed count endpoints owners attached domains regions logged lost reasons flags sources addresses)) t out read printed
     × (length t ≡ length t₀)
-    × Ready (deviceWith settings listed count endpoints owners attached domains logged lost reasons flags sources addresses t)
+    × Ready (deviceWith settings listed count endpoints owners attached domains regions logged lost reasons flags sources addresses t)
 
 abbrev μ-loop : tie.MeasureT-loop
-μ-loop settings listed live endpoints owners attached₀ domains₀ logged₀ lost₀ reasons₀ flags₀ sources₀ addresses₀ t₀ b out₀ count₀ read₀ printed₀ attached domains logged lost reasons flags sources addresses t out count read printed =
+μ-loop settings listed live endpoints owners attached₀ domains₀ regions logged₀ lost₀ reasons₀ flags₀ sources₀ addresses₀ t₀ b out₀ count₀ read₀ printed₀ attached domains logged lost reasons flags sources addresses t out count read printed =
     length b - read
 
 loop-holds : tie.Need-loop-holds Inv-loop μ-loop
@@ -37,10 +37,10 @@ module _ (l : tie.At-loop Inv-loop μ-loop) where
   start = l .before .before .before .before
 
   abbrev from : Session
-  from = running (stateWith (start .args .settings) (start .args .listed) (start .args .live) (start .args .endpoints .now) (start .args .owners .now) (start .args .attached .now) (start .args .domains .now) (start .args .logged .now) (start .args .lost .now) (start .args .reasons .now) (start .args .flags .now) (start .args .sources .now) (start .args .addresses .now))
+  from = running (stateWith (start .args .settings) (start .args .listed) (start .args .live) (start .args .endpoints .now) (start .args .owners .now) (start .args .attached .now) (start .args .domains .now) (start .args .regions .now) (start .args .logged .now) (start .args .lost .now) (start .args .reasons .now) (start .args .flags .now) (start .args .sources .now) (start .args .addresses .now))
 
   abbrev at : Session
-  at = running (stateWith (start .args .settings) (start .args .listed) (l .loop .count) (start .args .endpoints .now) (start .args .owners .now) (l .loop .attached) (l .loop .domains) (l .loop .logged) (l .loop .lost) (l .loop .reasons) (l .loop .flags) (l .loop .sources) (l .loop .addresses))
+  at = running (stateWith (start .args .settings) (start .args .listed) (l .loop .count) (start .args .endpoints .now) (start .args .owners .now) (l .loop .attached) (l .loop .domains) (start .args .regions .now) (l .loop .logged) (l .loop .lost) (l .loop .reasons) (l .loop .flags) (l .loop .sources) (l .loop .addresses))
 
   abbrev went : Went from (start .args .t .now) (start .args .b .now) (start .args .out .now) at (l .loop .t) (l .loop .out) (l .loop .read) (l .loop .printed)
   went = l .loop .inv .0
@@ -54,13 +54,13 @@ module _ (y : tie.After-work-record Inv-loop μ-loop) where
   b = start l .args .b .now
 
   abbrev next : StepResult
-  next = ranTo (stateWith (start l .args .settings) (start l .args .listed) (y .work-record .result .live) (start l .args .endpoints .now) (start l .args .owners .now) (y .work-record .last .1 .1 .1 .1 .1 .0) (y .work-record .last .1 .1 .1 .1 .1 .1 .0) (y .work-record .last .1 .1 .1 .1 .1 .1 .1 .0) (y .work-record .last .1 .1 .1 .1 .1 .1 .1 .1 .0) (y .work-record .last .1 .1 .1 .1 .1 .1 .1 .1 .1 .0) (y .work-record .last .1 .1 .1 .1 .1 .1 .1 .1 .1 .1 .0) (y .work-record .last .1 .1 .1 .1 .1 .1 .1 .1 .1 .1 .1 .0) (y .work-record .last .1 .1 .1 .1 .1 .1 .1 .1 .1 .1 .1 .1 .0)) (y .work-record .result)
+  next = ranTo (stateWith (start l .args .settings) (start l .args .listed) (y .work-record .result .live) (start l .args .endpoints .now) (start l .args .owners .now) (y .work-record .last .1 .1 .1 .1 .1 .0) (y .work-record .last .1 .1 .1 .1 .1 .1 .0) (start l .args .regions .now) (y .work-record .last .1 .1 .1 .1 .1 .1 .1 .1 .0) (y .work-record .last .1 .1 .1 .1 .1 .1 .1 .1 .1 .0) (y .work-record .last .1 .1 .1 .1 .1 .1 .1 .1 .1 .1 .0) (y .work-record .last .1 .1 .1 .1 .1 .1 .1 .1 .1 .1 .1 .0) (y .work-record .last .1 .1 .1 .1 .1 .1 .1 .1 .1 .1 .1 .1 .0) (y .work-record .last .1 .1 .1 .1 .1 .1 .1 .1 .1 .1 .1 .1 .1 .0)) (y .work-record .result)
 
   abbrev words : List ℕ
-  words = (y .work-record .last .1 .1 .1 .1 .1 .1 .1 .1 .1 .1 .1 .1 .1 .0)
+  words = y .work-record .last .1 .1 .1 .1 .1 .1 .1 .1 .1 .1 .1 .1 .1 .1 .0
 
   abbrev left : List ℕ
-  left = (y .work-record .last .1 .1 .1 .1 .1 .1 .1 .1 .1 .1 .1 .1 .1 .1 .1 .0)
+  left = y .work-record .last .1 .1 .1 .1 .1 .1 .1 .1 .1 .1 .1 .1 .1 .1 .1 .1 .0
 
   told : Matches next words (l .loop .out) left (l .loop .printed) (stepRecord (at l) (l .loop .t) (drop (l .loop .read) b))
   told = rw (take-all (length b - l .loop .read) (drop (l .loop .read) b) (omega (arith, length-drop (l .loop .read) b))) at (y .work-record .ensures)

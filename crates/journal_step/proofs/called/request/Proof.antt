@@ -21,7 +21,7 @@ returns c =
     let i = z .before in
     let st = i .before .before .before .before .before in
     later (st .args .p) _ (i .if1 .left)
-    (matches-call lineRoom (st .args .s .now) _ (λ r. requestLine (r .answer) (r .buffer)) (omega (arith, st .pre .1)) (rw (z .size-of .ensures) at (x .request .ensures)) (k .put-request .ensures) (c .finished .ensures))
+    (matches-call lineRoom (st .args .s .now) _ (λ r. requestLine (r .answer) (r .buffer)) (omega (arith, st .pre .1)) (rw (z .size-of .ensures) at (x .request .ensures)) (k .put-request .ensures .0, k .put-request .ensures .1) (c .finished .ensures))
 
 pub request-spec : {M : Type 1} → statement M
 request-spec =
