@@ -1,2 +1,2 @@
-mod Passing
+pub mod Passing
 mod Ways
