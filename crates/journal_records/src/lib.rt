@@ -39,7 +39,7 @@ pub enum Item {
     // One region more of an endpoint.
     NamedRegion(Endpoint, Region),
     Request(Guest),
-    // A request that the properties are printed of, in a writable part with room for them.
+    // A request in a writable part with room for properties, which are printed.
     Probe(Guest),
     AccessBy(Access),
     Reset(Guest),

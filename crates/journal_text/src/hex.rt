@@ -36,6 +36,7 @@ pub fn put_hex(out: &mut [u8], at: usize, bytes: &[u8]) -> usize
     ensures { λ r. ⌜ (r ≡ at + writtenCount (length (hexLine (now (bytes .entry)))) at (hexLine (now (bytes .entry))) (now (out .entry))) × (now (out .exit) ≡ written (length (hexLine (now (bytes .entry)))) at (hexLine (now (bytes .entry))) (now (out .entry))) ⌝ }
 {
     let n = bytes.len();
+    // A buffer of fewer than 2 n bytes has no room; in any other case 2 n + 1 can be counted.
     if out.len() / 2 < n {
         return at;
     }
