@@ -1,19 +1,12 @@
 -- What one turn of a loop adds to a test.
-use Prim.Native.Nat.{ℕ, zero, suc, _+_, _<_, _≤_, min}
-use mathlib.Core.Path.{_≡_, sym, ap}
+use Prim.Native.Nat.{ℕ, _+_, _<_, _≤_}
+use mathlib.Core.Path.{_≡_, sym}
 use mathlib.Core.List.{List, [], _∷_}
 use mathlib.Core.Bool.{Bool, _&&_, and-assoc, and-true}
-use native.Mathlib.Nat.{zero-min, min-zero, suc-min-suc}
 use lib.ListN.{length, getD, take, drop, drop-of-length-le}
 use lib.Seq.{length-take-le, getD-take}
 use Rattle.laws.specs.Lists.{all?, pairwise}
 use Rattle.laws.proofs.Rounds.{drop-next}
-
--- no more are taken than there are
-pub take-least : {A : Type 0} (n : ℕ) (xs : List A) → take (min n (length xs)) xs ≡ take n xs
-take-least zero xs = rw (zero-min (length xs))
-take-least (suc n) [] = rw (min-zero (suc n))
-take-least (suc n) (x ∷ xs) = rw (suc-min-suc n (length xs)) (ap (λ (l : List _). x ∷ l) (take-least n xs))
 
 -- over the first n elements of a list, of which what is left to look at is a suffix
 module _ (xs : List ℕ) (n : ℕ) (fits : n ≤ length xs) (i : ℕ) (ok : Bool) where

@@ -58,7 +58,7 @@ fn consumed(live: usize, b: &[u8], k: usize) -> RunStep
     }
 }
 
-// A request, with a writable part of four bytes.
+// A request that is no PROBE, with a writable part of four bytes.
 pub(crate) fn work_request<'a>(
     settings: Settings,
     listed: usize,

@@ -57,7 +57,7 @@ pub(crate) fn start(
     finished(given, s, k)
 }
 
-// A request, with a writable part of four bytes.
+// A request that is no PROBE, with a writable part of four bytes.
 pub(crate) fn request(
     p: Session,
     t: &mut [u64],

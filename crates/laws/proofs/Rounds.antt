@@ -1,13 +1,15 @@
 -- What one round of a loop adds: to a test of the numbers below one, and to what is left of a list.
-use Prim.Native.Nat.{ℕ, zero, suc, _+_, _*_, _≤_, _<_}
+use Prim.Native.Nat.{ℕ, zero, suc, _+_, _*_, _≤_, _<_, min}
 use mathlib.Core.Path.{_≡_, refl, sym, _∙_}
 use mathlib.Core.Bool.{Bool, true, false, _&&_, and-true, and-comm}
 use mathlib.Core.List.{List, _∷_}
 use native.Mathlib.Omega.{arith}
 use native.Mathlib.Nat.{add-zero, add-suc, mul-zero, mul-suc}
 use native.Mathlib.Numerals.{add-one}
-use lib.ListN.{length, getD, drop}
-use lib.Seq.{drop-cons}
+use lib.Dec.{leb}
+use lib.ListN.{length, getD, take, drop}
+use lib.Seq.{drop-cons, take-all}
+use borrow.Author.Tests.{leb-true, leb-false}
 use Rattle.laws.specs.Lists.{below}
 
 pub below-none : (q : ℕ → Bool) → below 0 q ≡ true
@@ -59,3 +61,11 @@ below-grid n (suc m) q = rw (mul-suc n m, below-append (n * m) n q, below-grid n
 -- over a list, of which what is left to look at is a suffix
 pub drop-next : {A : Type 0} (xs : List A) (i : ℕ) (z : A) → i < length xs → drop i xs ≡ getD xs i z ∷ drop (i + 1) xs
 drop-next xs i z h = rw add-one (drop-cons xs i z h)
+
+-- of m elements, the first n are the first min n m
+pub take-least : {A : Type 0} (n m : ℕ) (l : List A) → length l ≡ m → take (min n m) l ≡ take n l
+take-least n m l e = go (leb n m) refl
+  where
+    go : (b : Bool) → leb n m ≡ b → take (min n m) l ≡ take n l
+    go true h = let z : min n m ≡ n = omega (arith, leb-true n m h) in rw z
+    go false h = take-all (min n m) l (omega (arith, leb-false n m h)) ∙ sym (take-all n l (omega (arith, leb-false n m h)))

@@ -1,5 +1,4 @@
 -- Laws of the bytes of properties.
-use Prim.Native.Nat.{ℕ}
 use mathlib.Core.Path.{_≡_, refl}
 use lib.ListN.{length}
 use Rattle.rules.specs.declared.Region.{Region}

@@ -1,14 +1,14 @@
 -- `config_endpoints::good_lists` meets its contract. Assumes nothing.
 use borrow.Author.Needs.{needs}
 use borrow.Author.Tests.{lt-leb, le-leb, eq-eqb, ne-eqb}
-use mathlib.Core.Path.{_≡_}
+use mathlib.Core.Path.{_≡_, refl}
 use mathlib.Core.Bool.{not, and-true}
 use lib.Dec.{eqb}
-use lib.ListN.{take, length-take}
+use lib.ListN.{length, take, length-take}
 use Rattle.laws.specs.Lists.{pairwise}
 use Rattle.rules.specs.Sizes.{maxEndpoints}
 use Rattle.rules.specs.Configuration.{goodLists}
-use Rattle.config_endpoints.proofs.Rounds.{take-least}
+use Rattle.laws.proofs.Rounds.{take-least}
 use Rattle.config_endpoints.proofs.good_lists.Statement.{statement}
 use Rattle.config_endpoints.proofs.good_lists.Tie as tie
 
@@ -48,8 +48,8 @@ returns-3 c =
     let E = a .endpoints .now in
     let O = a .owners .now in
     let m = b .before .least .result in
-    let p : take m E ≡ take (a .n) E = rw (b .before .least .ensures) (take-least (a .n) E) in
-    let q : take m O ≡ take (a .n) O = rw (e .before .if1 .left, b .least2 .ensures) (take-least (a .n) O) in
+    let p : take m E ≡ take (a .n) E = rw (b .before .least .ensures) (take-least (a .n) (length E) E refl) in
+    let q : take m O ≡ take (a .n) O = rw (e .before .if1 .left, b .least2 .ensures) (take-least (a .n) (length O) O refl) in
     rw (
       c .distinct .ensures,
       c .before .owners-below .ensures,

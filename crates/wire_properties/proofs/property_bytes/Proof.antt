@@ -1,6 +1,5 @@
 -- The numbers lie at their places, and all else is zero.
 use mathlib.Core.Path.{_∙_}
-use native.Mathlib.Omega.{arith}
 use borrow.Author.Needs.{needs}
 use Rattle.rules.specs.Handlers.{propertyBytes}
 use Rattle.wire_properties.specs.Properties.{propertyPut}

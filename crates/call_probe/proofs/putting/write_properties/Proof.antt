@@ -1,6 +1,5 @@
 -- Zeros, and before them the properties where the endpoint is owned.
-use mathlib.Core.Path.{_≡_, refl, _∙_}
-use mathlib.Core.List.{append-nil}
+use mathlib.Core.Path.{_≡_, _∙_}
 use native.Mathlib.Omega.{arith}
 use borrow.Author.Needs.{needs}
 use borrow.Author.Tests.{eq-eqb, ne-eqb}

@@ -1,28 +1,17 @@
 -- `journal_session::naming::start` meets its contract. Assumes nothing.
 use Prim.Native.Nat.{ℕ, _*_, min}
-use mathlib.Core.Path.{_≡_, refl, sym, _∙_}
-use mathlib.Core.Bool.{Bool, true, false}
+use mathlib.Core.Path.{_≡_}
 use mathlib.Core.List.{List}
 use native.Mathlib.Omega.{arith}
-use lib.Dec.{leb}
 use lib.ListN.{length, take}
-use lib.Seq.{take-all}
 use borrow.Author.Needs.{needs}
-use borrow.Author.Tests.{leb-true, leb-false}
+use Rattle.laws.proofs.Rounds.{take-least}
 use Rattle.rules.specs.Sizes.{maxEndpoints, endpointRegionWords, regionPlaces}
 use Rattle.rules.specs.State.{configOf}
 use Rattle.journal_session.proofs.naming.start.Statement.{statement}
 use Rattle.journal_session.proofs.naming.start.Tie as tie
 
--- of m elements, the first n are the first min n m
-take-least : (n m : ℕ) (l : List ℕ) → length l ≡ m → take (min n m) l ≡ take n l
-take-least n m l e = go (leb n m) refl
-  where
-    go : (b : Bool) → leb n m ≡ b → take (min n m) l ≡ take n l
-    go true h = let z : min n m ≡ n = omega (arith, leb-true n m h) in rw z
-    go false h = take-all (min n m) l (omega (arith, leb-false n m h)) ∙ sym (take-all n l (omega (arith, leb-false n m h)))
-
--- and so with the words of each endpoint's regions
+-- the words of each endpoint's regions, where no more endpoints are taken than there are places
 take-regions : (n : ℕ) (l : List ℕ) → length l ≡ regionPlaces → take (endpointRegionWords * min n maxEndpoints) l ≡ take (endpointRegionWords * n) l
 take-regions n l e =
     let z : endpointRegionWords * min n maxEndpoints ≡ min (endpointRegionWords * n) regionPlaces = omega arith in
