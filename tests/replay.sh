@@ -32,7 +32,7 @@ done
 echo "replay: $cases cases, $journals journals, each whole and byte by byte"
 
 # The long journal: a start, a block of calls 350 times 4,096 times over, and an unknown kind. The block has every kind of
-# call and leaves the device as it found it, so that its lines repeat too. Its 145 bytes are an odd number, so that a reader's
+# call but a PROBE and leaves the device as it found it, so that its lines repeat too. Its 145 bytes are an odd number, so that a reader's
 # buffer ends at each of them in turn. 208 MB in 64 MiB leave no room to keep the journal or its lines, and the offset in the
 # last line has counted every byte.
 put_parts tests/long
