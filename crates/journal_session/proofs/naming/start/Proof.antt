@@ -1,6 +1,6 @@
 -- `journal_session::naming::start` meets its contract. Assumes nothing.
 use Prim.Native.Nat.{ℕ, _*_, min}
-use mathlib.Core.Path.{_≡_}
+use mathlib.Core.Path.{_≡_, _∙_}
 use mathlib.Core.List.{List}
 use native.Mathlib.Omega.{arith}
 use lib.ListN.{length, take}
