@@ -23,6 +23,7 @@ use crosscheck::places::State;
 use crosscheck::record::Record;
 use crosscheck::regions::MOST_REGIONS;
 use flat::Flat;
+use setting::Setting;
 use std::hint::black_box;
 use std::time::Instant;
 
@@ -43,7 +44,7 @@ fn main() {
     println!("  a state handed over by value and back: {}", handing_over());
     for live in LIVE {
         println!("{live} live records:");
-        let mut devices = Devices::with_live(live, 0);
+        let mut devices = Devices::with_live(live, setting::SPREAD);
         let unlisted = spread(&[setting::unlisted()]);
         let fetches = spread(&[Record::Fetch { guest: Guest(0), asked: 0 }]);
         devices.report_test("empty logs");
@@ -53,13 +54,17 @@ fn main() {
         devices.report_test("full logs");
         devices.report("full logs, access of an unlisted endpoint", 6, &unlisted);
         devices.report("full logs, fetch of 0 bytes", 0, &fetches);
-        devices.report("full logs, access blocked", 8, &spread(&setting::misses()));
+        devices.report("full logs, access blocked", 8, &spread(&setting::SPREAD.misses()));
         if live > 0 {
-            devices.report("full logs, access through", 0, &spread(&setting::hits(live)));
+            devices.report("full logs, access through", 0, &spread(&setting::SPREAD.hits(live)));
         }
-        let mut reserved = Devices::with_live(live, MOST_REGIONS as u64);
+        let regions = MOST_REGIONS as u64;
+        let mut reserved = Devices::with_live(live, Setting { regions, ..setting::SPREAD });
         reserved.fill_logs();
         reserved.report_test("full logs, four regions of each endpoint");
+        let mut crowded = Devices::with_live(live, Setting { regions, ..setting::ONE_DOMAIN });
+        crowded.fill_logs();
+        crowded.report_test("the same, all endpoints and records in one domain");
     }
 }
 
@@ -70,31 +75,32 @@ fn spread(calls: &[Record]) -> Vec<Record> {
 
 /// Two devices in the same state.
 struct Devices {
+    setting: Setting,
     archived: Archived,
     second: Device,
 }
 
 impl Devices {
-    /// Sets up both, with so many regions of each endpoint, and brings them to so many live records by
-    /// the same calls.
-    fn with_live(live: u32, regions: u64) -> Self {
-        let configuration = setting::configuration(regions);
+    /// Sets up both and brings them to so many live records by the same calls.
+    fn with_live(live: u32, setting: Setting) -> Self {
+        let configuration = setting.configuration();
         let archived = Archived::set_up(&configuration);
         let second = Device::set_up(configuration).expect("a good configuration");
-        let mut devices = Devices { archived, second };
-        for call in setting::calls(live) {
+        let mut devices = Devices { setting, archived, second };
+        for call in setting.calls(live) {
             devices.ask_both(&call);
         }
         assert_eq!((devices.archived.live(), devices.archived.logged()), (live as usize, 0));
         devices
     }
 
-    /// Fills all four logs.
+    /// Fills every guest's log.
     fn fill_logs(&mut self) {
-        for call in setting::misses() {
-            self.ask_both(&call);
+        let misses = self.setting.misses();
+        for call in &misses {
+            self.ask_both(call);
         }
-        assert_eq!(self.archived.logged(), 64);
+        assert_eq!(self.archived.logged(), misses.len());
     }
 
     /// The answer of both, which is the same.
@@ -165,7 +171,7 @@ extern "C" fn hand_back(state: State) -> entries::FetchGiven {
 
 /// The nanoseconds of such a fetch, with the state put back in its place as after any call.
 fn handing_over() -> Spread {
-    let mut state = Archived::set_up(&setting::configuration(0)).state();
+    let mut state = Archived::set_up(&setting::SPREAD.configuration()).state();
     let entry: extern "C" fn(State) -> entries::FetchGiven = black_box(hand_back);
     let fetch = |state: &mut State| *state = entry(*state).state;
     let times: Vec<f64> =

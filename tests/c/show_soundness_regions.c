@@ -1,7 +1,9 @@
 /* Reserved regions, written into the state by hand. Endpoint 8, in place 0, is in domain 1 of guest 0, which has records of
    0x1000 to 0x1fff and of 0x3000 to 0x3fff; endpoint 9 of guest 1, in place 1, is in none. */
+#include <stdio.h>
 #include <string.h>
 
+#include "expect.h"
 #include "show_soundness.h"
 
 #define RESERVED VIOMMU_REGION_RESERVED
@@ -70,6 +72,43 @@ static void show_domain(struct driver d)
     show("on a record, of an endpoint in another guest's domain 1", &d);
 }
 
+/* The endpoint at this place has this number and is in this domain. */
+static void place(struct driver *d, size_t i, uint32_t endpoint, uint32_t domain)
+{
+    d->state.endpoints[i] = endpoint;
+    d->state.attached[i] = 1;
+    d->state.domains[i] = domain;
+}
+
+/* A record of the pages from first to last. */
+static void map_pages(struct driver *d, uint8_t guest, uint32_t domain, uint64_t first, uint64_t last)
+{
+    uint64_t phys = d->state.settings.firsts[guest] + first * 0x1000;
+    EXPECT(ask(d, guest, map(domain, first * 0x1000, last * 0x1000 + 0xfff, phys, 0)) == VIOMMU_STATUS_OK);
+}
+
+/* Endpoint 10 of guest 0 is in domain 2, whose records are pages 2, 5, 6 to 8 and 11. Before them in the table's order stand those of
+   domain 1, pages 1 and 3, after them those of domain 3, pages 0 and 9, and of guest 1's domain 2, pages 4 and 10. A region of
+   endpoint 10 of one address, in the middle of each page in turn. */
+static void show_pages(struct driver d)
+{
+    d.state.listed = 4;
+    d.state.settings.shares[0] = d.state.settings.shares[1] = 16;
+    place(&d, 1, 9, 2);
+    place(&d, 2, 10, 2);
+    place(&d, 3, 11, 3);
+    map_pages(&d, 0, 2, 11, 11), map_pages(&d, 0, 2, 2, 2), map_pages(&d, 0, 2, 6, 8), map_pages(&d, 0, 2, 5, 5);
+    map_pages(&d, 0, 3, 0, 0), map_pages(&d, 0, 3, 9, 9);
+    map_pages(&d, 1, 2, 4, 4), map_pages(&d, 1, 2, 10, 10);
+    for (uint64_t page = 0; page <= 12; page++) {
+        char what[40];
+        uint64_t address = page * 0x1000 + 0x800;
+        give(&d, 2, (struct viommu_regions){1, {{RESERVED, address, address}}});
+        snprintf(what, sizeof what, "a region in page %d", (int)page);
+        show(what, &d);
+    }
+}
+
 /* The regions themselves, as set-up would refuse them. */
 static void show_good(struct driver d)
 {
@@ -123,6 +162,7 @@ void show_regions(const struct driver *sound)
 {
     show_met(*sound);
     show_domain(*sound);
+    show_pages(*sound);
     show_good(*sound);
     show_count(*sound);
     show_unused(*sound);

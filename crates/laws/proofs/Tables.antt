@@ -1,7 +1,7 @@
 -- Laws of lists made by a function of the index, and of tests and sums below a number.
 use Prim.Native.Nat.{ℕ, zero, suc, _+_, _-_, _≤_, _<_}
 use mathlib.Core.Path.{_≡_, refl, sym, ap, _∙_}
-use mathlib.Core.Bool.{Bool, true, false, cond}
+use mathlib.Core.Bool.{Bool, true, false, cond, _||_}
 use mathlib.Core.List.{List, [], _∷_}
 use mathlib.Core.Logic.{_≢_}
 use native.Mathlib.Omega.{arith}
@@ -9,8 +9,8 @@ use lib.Dec.{eqb}
 use lib.ListN.{length, getD, replicate}
 use lib.Seq.{ext-getD}
 use borrow.Author.Tests.{eqb-true, eqb-false, ne-eqb}
-use Rattle.laws.specs.Lists.{all?, below, sumBelow, tabFrom, tab, pad}
-use Rattle.laws.proofs.Tests.{both, both-left, both-right}
+use Rattle.laws.specs.Lists.{all?, any?, pairwise, below, sumBelow, tabFrom, tab, pad}
+use Rattle.laws.proofs.Tests.{both, both-left, both-right, true-false, or-left, or-right}
 
 -- tests below a number
 pub below-at : (n : ℕ) (q : ℕ → Bool) (g : ℕ) → below n q ≡ true → g < n → q g ≡ true
@@ -83,6 +83,27 @@ module _ {A : Type 0} where
   pub all-of : (q : A → Bool) (l : List A) (z : A) → ((i : ℕ) → i < length l → q (getD l i z) ≡ true) → all? q l ≡ true
   all-of q [] z h = refl
   all-of q (x ∷ l) z h = both (q x) (all? q l) (h 0 (omega arith)) (all-of q l z (λ i k. h (suc i) (omega arith)))
+
+  -- some element passes: it stands at a place
+  pub any-at : (q : A → Bool) (l : List A) (z : A) → any? q l ≡ true → (i : ℕ) × (i < length l) × (q (getD l i z) ≡ true)
+  any-at q [] z h = true-false true refl (sym h)
+  any-at q (x ∷ l) z h = go (q x) refl h (λ k. any-at q l z k)
+    where
+      go : (b : Bool) → q x ≡ b → (b || any? q l) ≡ true → (any? q l ≡ true → (i : ℕ) × (i < length l) × (q (getD l i z) ≡ true)) → (i : ℕ) × (i < length (x ∷ l)) × (q (getD (x ∷ l) i z) ≡ true)
+      go true e h f = (0, omega arith, e)
+      go false e h f = let r = f h in (suc (r .0), omega (arith, r .1), r .2)
+
+  pub any-of : (q : A → Bool) (l : List A) (i : ℕ) (z : A) → i < length l → q (getD l i z) ≡ true → any? q l ≡ true
+  any-of q [] i z h k = absurd (omega arith)
+  any-of q (x ∷ l) zero z h k = or-left (q x) (any? q l) k
+  any-of q (x ∷ l) (suc i) z h k = or-right (q x) (any? q l) (any-of q l i z (omega arith) k)
+
+  -- two elements of a list each of which passes a test with every later one
+  pub pairs-at : (q : A → A → Bool) (l : List A) (k j : ℕ) (z : A) → pairwise q l ≡ true → k < j → j < length l → q (getD l k z) (getD l j z) ≡ true
+  pairs-at q [] k j z h a b = absurd (omega arith)
+  pairs-at q (x ∷ l) k zero z h a b = absurd (omega arith)
+  pairs-at q (x ∷ l) zero (suc j) z h a b = all-at (q x) l j z (both-left (all? (q x) l) _ h) (omega arith)
+  pairs-at q (x ∷ l) (suc k) (suc j) z h a b = pairs-at q l k j z (both-right (all? (q x) l) _ h) (omega arith) (omega arith)
 
 -- sums
 pub sum-same : (n : ℕ) (f g : ℕ → ℕ) → ((k : ℕ) → k < n → f k ≡ g k) → sumBelow n f ≡ sumBelow n g

@@ -28,6 +28,7 @@ use Rattle.rules.proofs.Records.{wide}
 use Rattle.rules.proofs.Groups.{Good, good-facts, Framed, frame-facts, frame-tests, Placed, place-tests, Logged, log-tests, Recorded, reserved-facts, reserved-tests, sound-facts, sound-tests}
 use Rattle.rules.proofs.Parts.{passes-none, form-wide}
 use Rattle.table_record.specs.Records.{noMapping}
+use Rattle.table_search.proofs.Ordered.{InOrder}
 use Rattle.map_steps.specs.Forms.{limits, formGood}
 use Rattle.sound_records.specs.Scan.{ownGood, domainGood, scan, roomTests}
 use Rattle.sound_records.proofs.Room.{room-tests}
@@ -220,11 +221,17 @@ module _ (d : Device) (f : Framed d) where
   records-hold z h =
       recorded z (from-scan form domain formed keyed-here live (both-left (scan form domain true noMapping live) _ h)) (both-right (scan form domain true noMapping live) _ h)
 
+  ordered : zeroFrom (recordWords * d .state .live) (d .table) ≡ true → records-pass ≡ true → InOrder live
+  unfolding read
+  ordered z h =
+      let r = records-hold z h in
+      record { order = r .order; disjoint = r .disjoint; filled = all-imp form wide live formed (scanned r .forms) }
+
   -- where the other tests pass, those of the reserved regions decide
   pub decided : Placed (d .state) → Logged (d .state) → zeroFrom (recordWords * d .state .live) (d .table) ≡ true → records-pass ≡ true
       → regionsGood (d .state .listed) (d .state .live) (d .state .owners) (d .state .attached) (d .state .domains) (d .state .regions) (d .table) ≡ sound d
   decided p l z h =
-      reserved-are d f p
+      reserved-are d f p (ordered z h)
       ∙ same-test (every? (reservedTests d)) (sound d)
       (λ k. sound-tests d (record { frame = f; places = p; logs = l; records = records-hold z h; reserved = reserved-facts d k }))
       (λ k. reserved-tests d (sound-facts d k .reserved))

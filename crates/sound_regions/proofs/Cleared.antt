@@ -28,6 +28,7 @@ use Rattle.rules.proofs.Regions.{regions-agree, region-count}
 use Rattle.state_regions.specs.Held.{heldRegions}
 use Rattle.state_regions.proofs.Regions.{held-is}
 use Rattle.state_regions.proofs.InDomain.{found, regions-at, regions-from}
+use Rattle.table_search.proofs.Ordered.{InOrder}
 use Rattle.table_reserved.specs.Reserved.{regionsMet}
 use Rattle.table_reserved.proofs.Swapped.{regions-met}
 use Rattle.sound_regions.specs.Clear.{keyAt, endpointClear, regionsGood}
@@ -201,22 +202,22 @@ module _ (d : Device) (f : Framed d) (p : Placed (d .state)) where
       (on r (λ i k e. not-true _ (both-left (not (bars i r)) _ (h i k e))))
       (clear-all l (λ i k e. both-right (not (bars i r)) _ (h i k e)))
 
-  by-endpoint : all? (recordClear (configOf (d .state)) (read d)) live ≡ below n (endpointClear live owners attached domains (d .state .regions))
-  by-endpoint =
+  by-endpoint : InOrder live → all? (recordClear (configOf (d .state)) (read d)) live ≡ below n (endpointClear live owners attached domains (d .state .regions))
+  by-endpoint o =
       same-test (all? (recordClear (configOf (d .state)) (read d)) live) (below n (endpointClear live owners attached domains (d .state .regions)))
       (λ c. below-all n _ (λ i h. clear i (eqb (getD attached i 0) 1) refl (λ e. fails-all (bars i) live (all-imp (recordClear (configOf (d .state)) (read d)) (λ r. not (bars i r)) live (λ r k. rw (off r k i h e)) c))))
       (λ c. clear-all live (λ i h e. none-passes (bars i) live (met i e (below-at n (endpointClear live owners attached domains (d .state .regions)) i c h))))
     where
       clear : (i : ℕ) (b : Bool) → eqb (getD attached i 0) 1 ≡ b → (b ≡ true → any? (bars i) live ≡ false) → (not b || not (regionsMet (keyAt owners domains i) live (heldRegions (d .state .regions) i))) ≡ true
-      clear i true e m = rw (regions-met (keyAt owners domains i) live (heldRegions (d .state .regions) i), m refl)
+      clear i true e m = rw (regions-met (keyAt owners domains i) live (heldRegions (d .state .regions) i) o, m refl)
       clear i false e m = refl
 
       met : (i : ℕ) → eqb (getD attached i 0) 1 ≡ true → endpointClear live owners attached domains (d .state .regions) i ≡ true → any? (bars i) live ≡ false
-      met i e c = sym (regions-met (keyAt owners domains i) live (heldRegions (d .state .regions) i)) ∙ not-true _ (rw e at c)
+      met i e c = sym (regions-met (keyAt owners domains i) live (heldRegions (d .state .regions) i) o) ∙ not-true _ (rw e at c)
 
-  -- the code's test is that of soundness
-  pub reserved-are : regionsGood n (d .state .live) owners attached domains (d .state .regions) (d .table) ≡ every? (reservedTests d)
+  -- where the records are in order, the code's test is that of soundness
+  pub reserved-are : InOrder live → regionsGood n (d .state .live) owners attached domains (d .state .regions) (d .table) ≡ every? (reservedTests d)
   unfolding regionsGood read
-  reserved-are =
+  reserved-are o =
       rw (le-leb n maxEndpoints few)
-      (ap (λ (b : Bool). every? (regionZeros (d .state)) && b) (sym (and-true (all? (recordClear (configOf (d .state)) (read d)) live) ∙ by-endpoint)))
+      (ap (λ (b : Bool). every? (regionZeros (d .state)) && b) (sym (and-true (all? (recordClear (configOf (d .state)) (read d)) live) ∙ by-endpoint o)))

@@ -1,2 +1,3 @@
 mod Rest
+mod None
 pub mod Cleared

@@ -9,11 +9,12 @@ ghost use Rattle.state_regions.specs.Held.{heldRegions};
 ghost use Rattle.sound_regions.specs.Clear.{clearOf, endpointClear};
 use rules::Domain;
 use rules::Guest;
+use state_regions::count_at;
 use table_record::key_of;
 use table_reserved::regions_met;
 
 // Whether the endpoint at place i, with this attached flag, owner and domain, is not attached, or no record of its domain overlaps
-// one of its regions.
+// one of its regions. One without regions is not searched for.
 fn endpoint_clear<'a>(
     flag: u8,
     g: Guest,
@@ -26,6 +27,9 @@ fn endpoint_clear<'a>(
     ensures { λ b. ⌜ b ≡ clearOf (take live (records (now (t .entry)))) flag (keyOf g d) (heldRegions (now (regions .entry)) i) ⌝ }
 {
     if flag != 1 {
+        return true;
+    }
+    if count_at(regions, i) == 0 {
         return true;
     }
     !regions_met(t, live, key_of(g, d), regions, i)

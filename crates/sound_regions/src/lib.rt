@@ -7,10 +7,11 @@ ghost use Rattle.sound_regions.specs.Clear.{regionsGood};
 use clear::records_clear;
 use rules::sizes::MAX_ENDPOINTS;
 use rules::sizes::REGION_PLACES;
+use sound_zeros::zero_from;
 use unused::unused_zero;
 
 // Whether unused region places are zero and no record overlaps a region of an endpoint in its domain; false where there are no
-// places for as many endpoints.
+// places for as many endpoints. Where every word is zero, no endpoint has a region.
 pub fn regions_good<'a>(
     listed: usize,
     live: usize,
@@ -24,6 +25,9 @@ pub fn regions_good<'a>(
 {
     if MAX_ENDPOINTS < listed {
         return false;
+    }
+    if zero_from(regions, 0) {
+        return true;
     }
     unused_zero(regions, listed)
         & records_clear(listed, live, owners, attached, domains, regions, t)

@@ -1,39 +1,37 @@
 // Records of a domain on the reserved regions of an endpoint.
 ghost use mathlib.Core.Path.{_≡_};
-ghost use mathlib.Core.Bool.{_&&_};
 ghost use lib.ListN.{take};
 ghost use Rattle.rules.specs.Table.{records};
-ghost use Rattle.rules.specs.Handlers.{ofKey, onRegion};
 ghost use Rattle.state_regions.specs.Held.{heldRegions};
-ghost use Rattle.table_reserved.specs.Reserved.{regionsMet};
-use rules::Mapping;
+ghost use Rattle.table_reserved.specs.Reserved.{regionMet, regionsMet};
+use rules::Region;
 use state_regions::count_at;
-use state_regions::meets_at;
+use state_regions::region_at;
 use table_record::bounded;
 use table_record::get;
+use table_search::last_up_to;
 
-// Whether r is of the key's domain and has an address in common with a region of the endpoint at place i.
-fn on_region(r: Mapping, key: u64, regions: &[u64], i: usize) -> bool
-    ensures { λ b. ⌜ b ≡ (ofKey key r && onRegion (heldRegions (now (regions .entry)) i) r) ⌝ }
+// Whether one of the first live records, which are in order, is of the key's domain and has an address in common with the region: of
+// those that start at or before its last address the last one ends last.
+fn region_met(t: &[u64], live: usize, key: u64, q: Region) -> bool
+    ensures { λ b. ⌜ b ≡ regionMet key (take live (records (now (t .entry)))) q ⌝ }
 {
-    if r.key != key {
+    if bounded(t, live) == 0 {
         return false;
     }
-    meets_at(regions, i, r.start, r.end)
+    let r = get(t, last_up_to(t, live, key, q.end));
+    (key == r.key) & ((q.start <= r.end) & (r.start <= q.end))
 }
 
-// Whether one of the first live records is of the key's domain and has an address in common with a region of the endpoint at
-// place i: no pass over the records where it has none, and one where it has any.
+// Whether one of the first live records, which are in order, is of the key's domain and has an address in common with a region of the
+// endpoint at place i: one search for each region.
 pub fn regions_met(t: &[u64], live: usize, key: u64, regions: &[u64], i: usize) -> bool
     ensures { λ b. ⌜ b ≡ regionsMet key (take live (records (now (t .entry)))) (heldRegions (now (regions .entry)) i) ⌝ }
 {
-    if count_at(regions, i) == 0 {
-        return false;
-    }
-    let n = bounded(t, live);
+    let n = count_at(regions, i);
     let mut met = false;
-    for k in 0..n {
-        met = met | on_region(get(t, k), key, regions, i);
+    for j in 0..n {
+        met = met | region_met(t, live, key, region_at(regions, i, j));
     }
     met
 }
