@@ -24,10 +24,13 @@ fn region_met(t: &[u64], live: usize, key: u64, q: Region) -> bool
 }
 
 // Whether one of the first live records, which are in order, is of the key's domain and has an address in common with a region of the
-// endpoint at place i: one search for each region.
+// endpoint at place i: one search for each region, and none where there is no record.
 pub fn regions_met(t: &[u64], live: usize, key: u64, regions: &[u64], i: usize) -> bool
     ensures { λ b. ⌜ b ≡ regionsMet key (take live (records (now (t .entry)))) (heldRegions (now (regions .entry)) i) ⌝ }
 {
+    if bounded(t, live) == 0 {
+        return false;
+    }
     let n = count_at(regions, i);
     let mut met = false;
     for j in 0..n {
