@@ -1,11 +1,11 @@
 -- No endpoint has a region: every word is zero.
-use Prim.Native.Nat.{ℕ, _+_, _*_, _≤_, _<_, min}
-use mathlib.Core.Path.{_≡_, refl, sym, ap, _∙_}
+use Prim.Native.Nat.{ℕ, _+_, _*_, _<_, min}
+use mathlib.Core.Path.{_≡_, refl, _∙_}
 use mathlib.Core.Bool.{Bool, true, false, cond, not, _||_}
 use mathlib.Core.List.{List, []}
 use native.Mathlib.Omega.{arith}
 use lib.Dec.{ltb, eqb}
-use lib.ListN.{length, getD, take, drop, length-take}
+use lib.ListN.{length, getD, drop, length-take}
 use lib.Seq.{getD-take, getD-drop}
 use Rattle.laws.specs.Lists.{every?, below, tabFrom}
 use Rattle.laws.proofs.Tests.{both}
@@ -17,7 +17,7 @@ use Rattle.rules.specs.Sound.{zeroFrom, regionZeros}
 use Rattle.rules.proofs.Zeros.{zero-from, zero-past}
 use Rattle.state_regions.specs.Held.{heldCount, heldRegions}
 use Rattle.table_reserved.specs.Reserved.{regionsMet}
-use Rattle.sound_regions.specs.Clear.{regionsAlone, keyAt, endpointClear}
+use Rattle.sound_regions.specs.Clear.{regionsAlone, endpointClear}
 
 -- an endpoint with no region
 pub none-held : (w : List ℕ) (i : ℕ) → heldCount w i ≡ 0 → heldRegions w i ≡ []
