@@ -13,29 +13,29 @@ pub struct Endpoint(pub u32);
 
 #[repr(C)]
 pub struct SetUpGiven {
-    pub number: u8,
     pub state: State,
+    pub number: u8,
 }
 
 #[repr(C)]
 pub struct RequestGiven {
+    pub state: State,
     pub number: u8,
     pub used: usize,
-    pub state: State,
 }
 
 #[repr(C)]
 pub struct AccessGiven {
+    pub state: State,
     pub number: u8,
     pub address: u64,
-    pub state: State,
 }
 
 #[repr(C)]
 pub struct FetchGiven {
+    pub state: State,
     pub number: u8,
     pub count: usize,
-    pub state: State,
 }
 
 extern "C" {

@@ -58,27 +58,27 @@ AT(viommu_state, addresses, 4408);
    two states are compared as bytes. */
 SIZE(viommu_state, 4920);
 
-AT(viommu_set_up_given, number, 0);
-AT(viommu_set_up_given, state, 8);
+AT(viommu_set_up_given, state, 0);
+AT(viommu_set_up_given, number, 4920);
 SIZE(viommu_set_up_given, 4928);
 
-AT(viommu_request_given, number, 0);
-AT(viommu_request_given, used, 8);
-AT(viommu_request_given, state, 16);
+AT(viommu_request_given, state, 0);
+AT(viommu_request_given, number, 4920);
+AT(viommu_request_given, used, 4928);
 SIZE(viommu_request_given, 4936);
 
-AT(viommu_access_given, number, 0);
-AT(viommu_access_given, address, 8);
-AT(viommu_access_given, state, 16);
+AT(viommu_access_given, state, 0);
+AT(viommu_access_given, number, 4920);
+AT(viommu_access_given, address, 4928);
 SIZE(viommu_access_given, 4936);
 
-AT(viommu_reset_given, number, 0);
-AT(viommu_reset_given, state, 8);
+AT(viommu_reset_given, state, 0);
+AT(viommu_reset_given, number, 4920);
 SIZE(viommu_reset_given, 4928);
 
-AT(viommu_fetch_given, number, 0);
-AT(viommu_fetch_given, count, 8);
-AT(viommu_fetch_given, state, 16);
+AT(viommu_fetch_given, state, 0);
+AT(viommu_fetch_given, number, 4920);
+AT(viommu_fetch_given, count, 4928);
 SIZE(viommu_fetch_given, 4936);
 
 #endif

@@ -1,4 +1,5 @@
 // Fetches.
+mod checked;
 mod putting;
 
 ghost use mathlib.Core.Path.{_≡_};
@@ -8,6 +9,7 @@ ghost use Rattle.state_fields.specs.Fields.{withLogs};
 ghost use Rattle.refinement.specs.Flat.{device};
 ghost use Rattle.refinement.specs.Fetching.{fetchFaults};
 ghost use Rattle.refinement.specs.Replied.{replied};
+pub use checked::checked_fetch;
 use refinement::CallResult;
 use rules::Answer;
 use rules::Guest;
@@ -17,7 +19,6 @@ use rules::sizes::FAULT_PLACES;
 use rules::sizes::FAULT_SIZE;
 use rules::sizes::MAX_FAULTS;
 use rules::sizes::MAX_GUESTS;
-use sound::Checked;
 use state_fields::least;
 
 // A guest's oldest faults, as many as are held and fit whole into the buffer, which then go; a guest that is none of so many is refused,
@@ -52,11 +53,16 @@ pub fn fetch_faults<'a>(
 }
 
 // A guest's fetch, on the whole state.
-pub fn fetch(s: State, t: &[u64], g: Guest, buffer: &mut [u8]) -> CallResult
+pub fn fetch(mut s: State, t: &[u64], g: Guest, buffer: &mut [u8]) -> CallResult
     ensures { λ r. ⌜ replied r (now (buffer .exit)) (now (t .entry)) ≡ rules.step (device s (now (t .entry))) (rules.of-guest g (rules.fetch (now (buffer .entry)))) ⌝ }
 {
     let settings = s.settings;
-    let test = sound::check_job(
+    let mut logged = s.logged;
+    let mut reasons = s.reasons;
+    let mut flags = s.flags;
+    let mut sources = s.sources;
+    let mut addresses = s.addresses;
+    let answer = checked_fetch(
         settings,
         s.listed,
         s.live,
@@ -65,44 +71,20 @@ pub fn fetch(s: State, t: &[u64], g: Guest, buffer: &mut [u8]) -> CallResult
         &s.attached,
         &s.domains,
         &s.regions,
-        &s.logged,
-        &s.lost,
-        &s.reasons,
-        &s.flags,
-        &s.sources,
-        &s.addresses,
-        t,
-        g,
-    );
-    if let Checked::Refused(e) = test {
-        return CallResult {
-            answer: Answer::Refused(e),
-            state: s,
-        };
-    }
-    let mut logged = s.logged;
-    let mut reasons = s.reasons;
-    let mut flags = s.flags;
-    let mut sources = s.sources;
-    let mut addresses = s.addresses;
-    let answer = fetch_faults(
-        settings.guests,
         &mut logged,
+        &s.lost,
         &mut reasons,
         &mut flags,
         &mut sources,
         &mut addresses,
+        t,
         g,
         buffer,
     );
-    let mut next = s;
-    next.logged = logged;
-    next.reasons = reasons;
-    next.flags = flags;
-    next.sources = sources;
-    next.addresses = addresses;
-    CallResult {
-        answer,
-        state: next,
-    }
+    s.logged = logged;
+    s.reasons = reasons;
+    s.flags = flags;
+    s.sources = sources;
+    s.addresses = addresses;
+    CallResult { answer, state: s }
 }

@@ -1,5 +1,6 @@
 // Requests, refusals in order and then the handler of the type.
 mod answering;
+mod checked;
 
 ghost use mathlib.Core.Path.{_≡_};
 ghost use Rattle.rules.specs.declared.State.{State};
@@ -8,6 +9,7 @@ ghost use Rattle.refinement.specs.Flat.{device};
 ghost use Rattle.refinement.specs.Requesting.{serve};
 ghost use Rattle.refinement.specs.Replied.{replied};
 ghost use Rattle.call_request.specs.Answered.{lent};
+pub use checked::checked_request;
 use refinement::CallResult;
 use refinement::LentResult;
 use rules::Answer;
@@ -17,7 +19,6 @@ use rules::Settings;
 use rules::State;
 use rules::sizes::MAX_ENDPOINTS;
 use rules::sizes::REGION_PLACES;
-use sound::Checked;
 use wire_requests::request::Request;
 
 // A guest's request on lent arrays, state and table not tested.
@@ -73,7 +74,7 @@ pub fn serve<'a>(
 
 // A guest's request, in a readable and a writable part of any lengths.
 pub fn request(
-    s: State,
+    mut s: State,
     t: &mut [u64],
     g: Guest,
     readable: &[u8],
@@ -82,14 +83,16 @@ pub fn request(
     ensures { λ r. ⌜ replied r (now (writable .exit)) (now (t .exit)) ≡ rules.step (device s (now (t .entry))) (rules.of-guest g (rules.request (now (readable .entry)) (now (writable .entry)))) ⌝ }
 {
     let settings = s.settings;
-    let test = sound::check_job(
+    let mut attached = s.attached;
+    let mut domains = s.domains;
+    let done = checked_request(
         settings,
         s.listed,
         s.live,
         &s.endpoints,
         &s.owners,
-        &s.attached,
-        &s.domains,
+        &mut attached,
+        &mut domains,
         &s.regions,
         &s.logged,
         &s.lost,
@@ -99,36 +102,12 @@ pub fn request(
         &s.addresses,
         t,
         g,
-    );
-    if let Checked::Refused(e) = test {
-        return CallResult {
-            answer: Answer::Refused(e),
-            state: s,
-        };
-    }
-    let mut attached = s.attached;
-    let mut domains = s.domains;
-    let x = serve(
-        settings,
-        s.listed,
-        s.live,
-        &s.endpoints,
-        &s.owners,
-        &mut attached,
-        &mut domains,
-        &s.regions,
-        t,
-        g,
         readable,
         writable,
     );
-    let mut next = s;
-    next.attached = attached;
-    next.domains = domains;
-    next.live = x.live;
-    let answer = x.answer;
-    CallResult {
-        answer,
-        state: next,
-    }
+    s.attached = attached;
+    s.domains = domains;
+    s.live = done.live;
+    let answer = done.answer;
+    CallResult { answer, state: s }
 }

@@ -1,4 +1,6 @@
 // Reset of a guest.
+mod checked;
+
 ghost use mathlib.Core.Path.{_≡_};
 ghost use mathlib.Core.List.{[]};
 ghost use Rattle.rules.specs.Device as rules;
@@ -7,6 +9,7 @@ ghost use Rattle.state_fields.specs.Fields.{withLogs, withEndpoints};
 ghost use Rattle.refinement.specs.Flat.{device};
 ghost use Rattle.refinement.specs.Resetting.{resetAnswer, logsReset, domainsReset};
 ghost use Rattle.refinement.specs.Replied.{replied};
+pub use checked::checked_reset;
 use refinement::CallResult;
 use refinement::LentResult;
 use rules::Answer;
@@ -18,7 +21,6 @@ use rules::sizes::FAULT_PLACES;
 use rules::sizes::MAX_ENDPOINTS;
 use rules::sizes::MAX_GUESTS;
 use rules::sizes::TOP_ADDRESS;
-use sound::Checked;
 use state_fields::least;
 
 // The highest domain number.
@@ -62,34 +64,10 @@ pub fn reset_guest<'a>(
 }
 
 // A guest's reset, on the whole state.
-pub fn reset(s: State, t: &mut [u64], g: Guest) -> CallResult
+pub fn reset(mut s: State, t: &mut [u64], g: Guest) -> CallResult
     ensures { λ r. ⌜ replied r [] (now (t .exit)) ≡ rules.step (device s (now (t .entry))) (rules.of-guest g rules.reset) ⌝ }
 {
     let settings = s.settings;
-    let test = sound::check_job(
-        settings,
-        s.listed,
-        s.live,
-        &s.endpoints,
-        &s.owners,
-        &s.attached,
-        &s.domains,
-        &s.regions,
-        &s.logged,
-        &s.lost,
-        &s.reasons,
-        &s.flags,
-        &s.sources,
-        &s.addresses,
-        t,
-        g,
-    );
-    if let Checked::Refused(e) = test {
-        return CallResult {
-            answer: Answer::Refused(e),
-            state: s,
-        };
-    }
     let mut attached = s.attached;
     let mut domains = s.domains;
     let mut logged = s.logged;
@@ -98,13 +76,15 @@ pub fn reset(s: State, t: &mut [u64], g: Guest) -> CallResult
     let mut flags = s.flags;
     let mut sources = s.sources;
     let mut addresses = s.addresses;
-    let done = reset_guest(
-        settings.guests,
+    let done = checked_reset(
+        settings,
         s.listed,
         s.live,
+        &s.endpoints,
         &s.owners,
         &mut attached,
         &mut domains,
+        &s.regions,
         &mut logged,
         &mut lost,
         &mut reasons,
@@ -114,19 +94,15 @@ pub fn reset(s: State, t: &mut [u64], g: Guest) -> CallResult
         t,
         g,
     );
-    let mut next = s;
-    next.attached = attached;
-    next.domains = domains;
-    next.live = done.live;
-    next.logged = logged;
-    next.lost = lost;
-    next.reasons = reasons;
-    next.flags = flags;
-    next.sources = sources;
-    next.addresses = addresses;
+    s.attached = attached;
+    s.domains = domains;
+    s.logged = logged;
+    s.lost = lost;
+    s.reasons = reasons;
+    s.flags = flags;
+    s.sources = sources;
+    s.addresses = addresses;
+    s.live = done.live;
     let answer = done.answer;
-    CallResult {
-        answer,
-        state: next,
-    }
+    CallResult { answer, state: s }
 }

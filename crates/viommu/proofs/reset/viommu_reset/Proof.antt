@@ -1,16 +1,16 @@
--- `viommu::viommu_reset` meets its contract. Assumes nothing.
+-- `viommu::reset::viommu_reset` meets its contract. Assumes nothing.
 use mathlib.Core.Path.{ap, _∙_}
 use borrow.Author.Needs.{needs}
 use Rattle.rules.specs.declared.Values.{Values}
 use Rattle.rules.specs.Answers.{number}
 use Rattle.rules.specs.State.{Device}
 use Rattle.rules.specs.Device.{Reply}
-use Rattle.viommu.proofs.viommu_reset.Statement.{statement}
-use Rattle.viommu.proofs.viommu_reset.Tie as tie
+use Rattle.viommu.proofs.reset.viommu_reset.Statement.{statement}
+use Rattle.viommu.proofs.reset.viommu_reset.Tie as tie
 
 returns : tie.Need-returns
 returns c =
-    let e = c .before .before .before .before .reset .ensures in
+    let e = c .before .before .before .checked-reset .ensures in
     (ap (λ (v : Values). v .number) (c .values-of .ensures) ∙ ap (λ (p : Reply × Device). number (p .0 .answer)) e, ap (λ (p : Reply × Device). p .1) e)
 
 pub viommu-reset-spec : {M : Type 1} → statement M

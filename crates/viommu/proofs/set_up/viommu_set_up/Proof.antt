@@ -1,11 +1,11 @@
--- `viommu::viommu_set_up` meets its contract. Assumes nothing.
+-- `viommu::set_up::viommu_set_up` meets its contract. Assumes nothing.
 use mathlib.Core.Path.{ap, _∙_}
 use borrow.Author.Needs.{needs}
 use Rattle.rules.specs.declared.Values.{Values}
 use Rattle.rules.specs.Answers.{number}
 use Rattle.rules.specs.Device.{SetUp}
-use Rattle.viommu.proofs.viommu_set_up.Statement.{statement}
-use Rattle.viommu.proofs.viommu_set_up.Tie as tie
+use Rattle.viommu.proofs.set_up.viommu_set_up.Statement.{statement}
+use Rattle.viommu.proofs.set_up.viommu_set_up.Tie as tie
 
 returns : tie.Need-returns
 returns c =
