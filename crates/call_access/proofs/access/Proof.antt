@@ -3,5 +3,8 @@ use borrow.Author.Needs.{needs}
 use Rattle.call_access.proofs.access.Statement.{statement}
 use Rattle.call_access.proofs.access.Tie as tie
 
+returns : tie.Need-returns
+returns c = c .checked-access .ensures
+
 pub access-spec : {M : Type 1} → statement M
-access-spec = tie.close (tie.spec (λ c κs. search needs) (λ c. search needs))
+access-spec = tie.close (tie.spec (λ c κs. search needs) returns)

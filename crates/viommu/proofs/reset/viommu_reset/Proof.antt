@@ -1,17 +1,11 @@
 -- `viommu::reset::viommu_reset` meets its contract. Assumes nothing.
-use mathlib.Core.Path.{ap, _∙_}
 use borrow.Author.Needs.{needs}
-use Rattle.rules.specs.declared.Values.{Values}
-use Rattle.rules.specs.Answers.{number}
-use Rattle.rules.specs.State.{Device}
-use Rattle.rules.specs.Device.{Reply}
+use Rattle.viommu.proofs.Results.{of-reset}
 use Rattle.viommu.proofs.reset.viommu_reset.Statement.{statement}
 use Rattle.viommu.proofs.reset.viommu_reset.Tie as tie
 
 returns : tie.Need-returns
-returns c =
-    let e = c .before .before .before .checked-reset .ensures in
-    (ap (λ (v : Values). v .number) (c .values-of .ensures) ∙ ap (λ (p : Reply × Device). number (p .0 .answer)) e, ap (λ (p : Reply × Device). p .1) e)
+returns c = of-reset (c .before .before .before .checked-reset .ensures) (c .values-of .ensures)
 
 pub viommu-reset-spec : {M : Type 1} → statement M
 viommu-reset-spec = tie.close (tie.spec (λ c κs. search needs) (λ c κs. search needs) (λ c. search needs) returns)
