@@ -166,7 +166,8 @@ struct viommu_settings {
     uint32_t shares[VIOMMU_GUESTS];     /* together at most VIOMMU_RECORDS; 0 is allowed */
     uint64_t firsts[VIOMMU_GUESTS];
     uint64_t lasts[VIOMMU_GUESTS];
-    uint64_t mask;                      /* page_size_mask, not 0: its lowest set bit is the granularity of MAP */
+    uint64_t mask;                      /* page_size_mask, not 0: its lowest set bit is the granularity, of which a MAP's
+                                           virt_start, phys_start and virt_end + 1 must be multiples */
     struct viommu_input_range input;    /* the addresses that a MAP may name */
     struct viommu_domain_range domains; /* the domains that an ATTACH may name */
 };

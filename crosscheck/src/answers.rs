@@ -21,12 +21,12 @@ impl Refusal {
 }
 
 /// The status of a handled request; IOERR and DEVERR are never given.
-#[derive(Clone, Copy, Debug, PartialEq, Eq)]
+#[derive(Clone, Copy, Debug, PartialEq, Eq, PartialOrd, Ord)]
 pub enum Status {
     Ok,
     Unsupp,
     Inval(Inval),
-    Range,
+    Range(Range),
     Noent,
     Fault,
     Nomem,
@@ -45,6 +45,20 @@ pub enum Inval {
     Regions,
 }
 
+/// What is wrong where the status is RANGE, which no byte tells: for counting alone.
+#[derive(Clone, Copy, Debug, PartialEq, Eq, PartialOrd, Ord)]
+pub enum Range {
+    /// The domain lies outside the domain range.
+    Domain,
+    /// The virtual addresses are none, no whole pages, outside the input range, or cut a record.
+    Virtual,
+    /// phys_start alone is no multiple of the granularity, and all physical addresses lie in the
+    /// window.
+    PhysInWindow,
+    /// The same, and one of them lies outside.
+    PhysOutside,
+}
+
 impl Status {
     /// The byte written into the tail.
     pub fn byte(self) -> u8 {
@@ -52,7 +66,7 @@ impl Status {
             Status::Ok => 0,
             Status::Unsupp => 2,
             Status::Inval(_) => 4,
-            Status::Range => 5,
+            Status::Range(_) => 5,
             Status::Noent => 6,
             Status::Fault => 7,
             Status::Nomem => 8,

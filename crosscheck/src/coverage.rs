@@ -2,7 +2,7 @@
 
 mod regions;
 
-use crate::answers::{Inval, Status};
+use crate::answers::{Inval, Range, Status};
 use crate::compare::{Played, PlayedLine};
 use crate::journal::LineKind;
 use crate::requests::{ATTACH, DETACH, MAP, PROBE, UNMAP};
@@ -31,8 +31,8 @@ pub struct Coverage {
     numbers: BTreeMap<(String, u8), u64>,
     /// How often each status came for each request type.
     statuses: BTreeMap<(u8, u8), u64>,
-    /// How often MAP was answered INVAL for each cause.
-    map_invals: BTreeMap<Inval, u64>,
+    /// How often each status came for MAP, by the cause of INVAL and RANGE.
+    map_statuses: BTreeMap<Status, u64>,
     properties: u64,
     fault_records: u64,
     ends: u64,
@@ -68,15 +68,15 @@ impl Coverage {
         *self.numbers.entry((words[0].to_string(), number)).or_default() += 1;
         if let LineKind::Request(request_type, Some(status)) = kind {
             *self.statuses.entry((request_type, status.byte())).or_default() += 1;
-            if let (MAP, Status::Inval(cause)) = (request_type, status) {
-                *self.map_invals.entry(cause).or_default() += 1;
+            if request_type == MAP {
+                *self.map_statuses.entry(status).or_default() += 1;
             }
         }
     }
 
-    /// How often MAP was answered INVAL for this cause.
-    pub fn map_inval(&self, cause: Inval) -> u64 {
-        self.map_invals.get(&cause).copied().unwrap_or(0)
+    /// How often this status came for MAP, for this cause.
+    pub fn map_status(&self, status: Status) -> u64 {
+        self.map_statuses.get(&status).copied().unwrap_or(0)
     }
 
     /// How many lines of properties came.
@@ -123,10 +123,13 @@ impl Display for Coverage {
             }
             writeln!(out)?;
         }
-        let causes =
-            [Inval::Fields, Inval::Records, Inval::Regions].map(|cause| self.map_inval(cause));
-        let [fields, records, regions] = causes;
+        let [fields, records, regions] = [Inval::Fields, Inval::Records, Inval::Regions]
+            .map(|cause| self.map_status(Status::Inval(cause)));
         writeln!(out, "INVAL of MAP  flags: {fields}  records: {records}  regions: {regions}")?;
+        let [virt, inside, outside] = [Range::Virtual, Range::PhysInWindow, Range::PhysOutside]
+            .map(|cause| self.map_status(Status::Range(cause)));
+        writeln!(out, "RANGE of MAP  virtual: {virt}")?;
+        writeln!(out, "RANGE of MAP by phys_start  in the window: {inside}  outside: {outside}")?;
         writeln!(out, "fault records  {}, properties  {}", self.fault_records, self.properties)?;
         write!(out, "{}", self.regions)?;
         write!(out, "read to the end  {}, bad journals  {}", self.ends, self.bad_journals)

@@ -200,7 +200,7 @@ impl State {
         let last = lasts[record.guest()];
         record.flags & !u64::from(READ | WRITE) == 0
             && record.virt_start < record.virt_end
-            && record.virt_start & below_page == 0
+            && (record.virt_start | record.phys_start) & below_page == 0
             && record.virt_end & below_page == below_page
             && input.start <= record.virt_start
             && record.virt_end <= input.end

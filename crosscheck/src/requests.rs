@@ -1,6 +1,6 @@
 //! The five requests: their lengths, and what each but PROBE does, first failing step first.
 
-use crate::answers::{Handled, Inval, Refusal, Status};
+use crate::answers::{Handled, Inval, Range, Refusal, Status};
 use crate::device::Device;
 use crate::faults::{READ, WRITE};
 use crate::fields::Fields;
@@ -93,7 +93,7 @@ impl Device {
         }
         let place = self.own_endpoint(guest, request.endpoint)?;
         if !self.configuration.domain_range.contains(&request.domain.0) {
-            return Err(Status::Range);
+            return Err(Status::Range(Range::Domain));
         }
         let before = self.attached[place];
         if before == Some(request.domain) {
@@ -122,7 +122,7 @@ impl Device {
     }
 
     fn map(&mut self, mapping: Mapping) -> Result<(), Status> {
-        let Mapping { guest, domain, virt_start, virt_end, flags, .. } = mapping;
+        let Mapping { guest, domain, virt_start, virt_end, phys_start, flags } = mapping;
         if !self.domain_exists(guest, domain) {
             return Err(Status::Noent);
         }
@@ -130,9 +130,14 @@ impl Device {
             return Err(Status::Inval(Inval::Fields));
         }
         if !self.range_can_be_mapped(virt_start, virt_end) {
-            return Err(Status::Range);
+            return Err(Status::Range(Range::Virtual));
         }
-        if !self.lands_in_window(&mapping) {
+        let lands = self.lands_in_window(&mapping);
+        if !self.starts_a_page(phys_start) {
+            let cause = if lands { Range::PhysInWindow } else { Range::PhysOutside };
+            return Err(Status::Range(cause));
+        }
+        if !lands {
             return Err(Status::Fault);
         }
         if self.table.overlaps(guest, domain, &(virt_start..=virt_end)) {
@@ -158,19 +163,24 @@ impl Device {
         }
         let range = request.virt_start..=request.virt_end;
         if range.end() < range.start() || self.table.straddles(guest, request.domain, &range) {
-            return Err(Status::Range);
+            return Err(Status::Range(Range::Virtual));
         }
         self.table.remove_inside(guest, request.domain, &range);
         Ok(())
     }
 
-    /// Steps 3 to 5 of MAP: more than one address, whole pages, inside the input range. One more
-    /// than a number is a multiple of g when the number's bits below g are all set.
+    /// Step 4 of MAP for virt_start and phys_start: the address is a multiple of g.
+    pub(crate) fn starts_a_page(&self, address: u64) -> bool {
+        address & (self.configuration.granularity() - 1) == 0
+    }
+
+    /// Steps 3 to 5 of MAP for the virtual addresses: more than one, whole pages, inside the input
+    /// range. One more than a number is a multiple of g when the number's bits below g are all set.
     pub(crate) fn range_can_be_mapped(&self, virt_start: u64, virt_end: u64) -> bool {
         let below_page = self.configuration.granularity() - 1;
         let input = &self.configuration.input_range;
         virt_start < virt_end
-            && virt_start & below_page == 0
+            && self.starts_a_page(virt_start)
             && virt_end & below_page == below_page
             && *input.start() <= virt_start
             && virt_end <= *input.end()

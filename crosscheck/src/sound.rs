@@ -94,6 +94,7 @@ impl Device {
     fn could_be_mapped(&self, record: &Mapping) -> bool {
         flags_are_known(record.flags)
             && self.range_can_be_mapped(record.virt_start, record.virt_end)
+            && self.starts_a_page(record.phys_start)
             && self.lands_in_window(record)
     }
 

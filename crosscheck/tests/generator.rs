@@ -1,6 +1,6 @@
 //! The generator's journals: the same for the same seed, pairs that are pairs, every answer met.
 
-use crosscheck::answers::Inval;
+use crosscheck::answers::{Inval, Range, Status};
 use crosscheck::compare::{play, Played};
 use crosscheck::coverage::{Coverage, GROUPS};
 use crosscheck::generate::{case, Case};
@@ -202,9 +202,11 @@ fn every_answer_is_met_often() {
             assert!(count >= 50, "type {request_type} was answered {status} {count} times");
         }
     }
-    for cause in [Inval::Fields, Inval::Records, Inval::Regions] {
-        let count = coverage.map_inval(cause);
-        assert!(count >= 50, "MAP was answered INVAL by {cause:?} {count} times");
+    let invals = [Inval::Fields, Inval::Records, Inval::Regions].map(Status::Inval);
+    let ranges = [Range::Virtual, Range::PhysInWindow, Range::PhysOutside].map(Status::Range);
+    for status in invals.into_iter().chain(ranges) {
+        let count = coverage.map_status(status);
+        assert!(count >= 50, "MAP was answered {status:?} {count} times");
     }
     assert_eq!(coverage.properties(), coverage.status(PROBE, 0) + coverage.status(PROBE, 6));
     assert!(coverage.bad_journals() >= 50, "{} bad journals", coverage.bad_journals());

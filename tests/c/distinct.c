@@ -59,7 +59,8 @@ struct fault distinct_fault(size_t place)
     return f;
 }
 
-/* In the domain of the guest's first endpoint, which stands at place guest; flags 0, 1, 2 and 3. */
+/* In the domain of the guest's first endpoint, which stands at place guest, to the first multiple of 0x80 in its window; flags
+   0, 1, 2 and 3. */
 struct record distinct_record(uint8_t guest)
 {
     uint64_t start = 0x0200000000000000 + (uint64_t)0x80 * guest;
@@ -67,7 +68,7 @@ struct record distinct_record(uint8_t guest)
         ((uint64_t)guest << 32) + distinct_domain(guest),
         start,
         start + 0x7f,
-        distinct_settings().firsts[guest] + 5,
+        (distinct_settings().firsts[guest] | 0x7f) + 1,
         guest,
     }};
     return r;

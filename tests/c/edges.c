@@ -1,4 +1,4 @@
-/* What document 01 says "At the edges", a table that is full, and a lost count that stops. */
+/* What document 01 says "At the edges", phys_start off the granularity, a table that is full, and a lost count that stops. */
 #include <string.h>
 
 #include "driver.h"
@@ -54,11 +54,50 @@ static void check_wrap(void)
     struct viommu_settings s = wide(8);
     s.firsts[0] = 0;
     s.lasts[0] = UINT64_MAX;
+    s.mask = 1;
     EXPECT(start(&device, s) == VIOMMU_DONE);
     EXPECT(ask(&device, 0, attach(0, 8, 0)) == VIOMMU_STATUS_OK);
     EXPECT(ask(&device, 0, map(0, 0x1000, 0x1fff, 0xfffffffffffff000, 1)) == VIOMMU_STATUS_OK);
     EXPECT(ask(&device, 0, map(0, 0x2000, 0x3fff, 0xfffffffffffff000, 1)) == VIOMMU_STATUS_FAULT);
     EXPECT(ask(&device, 0, map(0, 0, UINT64_MAX, 1, 1)) == VIOMMU_STATUS_FAULT);
+}
+
+/* The status of a MAP of a page to phys, with this mask and window, after which the record is there or nothing has changed. */
+static uint8_t map_to(uint64_t mask, uint64_t first, uint64_t last, uint64_t phys)
+{
+    struct viommu_settings s = wide(8);
+    s.firsts[0] = first;
+    s.lasts[0] = last;
+    s.mask = mask;
+    EXPECT(start(&device, s) == VIOMMU_DONE);
+    EXPECT(ask(&device, 0, attach(0, 8, 0)) == VIOMMU_STATUS_OK);
+    struct driver before = device;
+    uint8_t status = ask(&device, 0, map(0, 0x1000, 0x1fff, phys, VIOMMU_FLAG_READ));
+    if (status == VIOMMU_STATUS_OK)
+        EXPECT(device.state.live == 1 && device.table[3] == phys);
+    else
+        EXPECT(memcmp(&device.state, &before.state, sizeof before.state) == 0 &&
+               memcmp(device.table, before.table, sizeof before.table) == 0);
+    return status;
+}
+
+/* "The standard aligns virt_start, phys_start and virt_end + 1. Answer RANGE": step 4, so RANGE outside the window too. */
+static void check_aligned(void)
+{
+    EXPECT(map_to(0x1000, 0x80000000, 0x8fffffff, 0x80000800) == VIOMMU_STATUS_RANGE);
+    EXPECT(map_to(0x1000, 0x80000000, 0x8fffffff, 0x8000a001) == VIOMMU_STATUS_RANGE);
+    EXPECT(map_to(0x1000, 0x80000000, 0x8fffffff, 0x8000a000) == VIOMMU_STATUS_OK);
+    EXPECT(map_to(0x1000, 0x80000000, 0x8fffffff, 0x70000001) == VIOMMU_STATUS_RANGE);
+    EXPECT(map_to(0x1000, 0x80000000, 0x8fffffff, 0x70000000) == VIOMMU_STATUS_FAULT);
+    EXPECT(map_to(0x1000, 0x80000000, 0x8fffffff, UINT64_MAX) == VIOMMU_STATUS_RANGE);
+    EXPECT(map_to(0x1000, 0x80000800, 0x8fffffff, 0x80000800) == VIOMMU_STATUS_RANGE);
+    EXPECT(map_to(0x1000, 0x80000800, 0x8fffffff, 0x80000000) == VIOMMU_STATUS_FAULT);
+    EXPECT(map_to(0x1000, 0x80000800, 0x8fffffff, 0x80001000) == VIOMMU_STATUS_OK);
+    EXPECT(map_to(1, 0x80000000, 0x8fffffff, 0x8000a001) == VIOMMU_STATUS_OK);
+    EXPECT(map_to(1, 0x80000000, 0x8fffffff, 0x70000001) == VIOMMU_STATUS_FAULT);
+    EXPECT(map_to(0x3000, 0x80000000, 0x8fffffff, 0x80001000) == VIOMMU_STATUS_OK);
+    EXPECT(map_to(0x3000, 0x80000000, 0x8fffffff, 0x80000800) == VIOMMU_STATUS_RANGE);
+    EXPECT(map_to(0x3000, 0x80000000, 0x8fffffff, 0x70000800) == VIOMMU_STATUS_RANGE);
 }
 
 /* Page n is mapped to page n of the window. */
@@ -106,8 +145,9 @@ int main(void)
     check_shares();
     check_map();
     check_wrap();
+    check_aligned();
     check_full();
     check_lost();
-    puts("edges: shares, the last page, the window's end, sums past 2^64, a full table, the lost count's stop");
+    puts("edges: shares, the last page, the window's end, sums past 2^64, phys_start off the granularity, a full table, the lost count's stop");
     return 0;
 }

@@ -79,13 +79,28 @@ static int record_empty(struct device *d, uint64_t drawn)
     return 1;
 }
 
-/* step 4 */
-static int record_unaligned(struct device *d, uint64_t drawn)
+/* step 4: one of a record's three addresses is one less or one more */
+static int word_unaligned(struct device *d, uint64_t drawn, size_t word)
 {
     if (d->state.live == 0 || (d->state.settings.mask & 1) != 0)
         return 0;
-    RECORD(d, pick(drawn >> 1, d->state.live))[1 + (drawn & 1)] += (drawn & 1) ? (uint64_t)-1 : 1;
+    RECORD(d, pick(drawn >> 1, d->state.live))[word] += (drawn & 1) ? (uint64_t)-1 : 1;
     return 1;
+}
+
+static int virt_start_unaligned(struct device *d, uint64_t drawn)
+{
+    return word_unaligned(d, drawn, 1);
+}
+
+static int virt_end_unaligned(struct device *d, uint64_t drawn)
+{
+    return word_unaligned(d, drawn, 2);
+}
+
+static int phys_start_unaligned(struct device *d, uint64_t drawn)
+{
+    return word_unaligned(d, drawn, 3);
 }
 
 /* step 5: the input range ends within the record, or starts within it */
@@ -101,14 +116,17 @@ static int record_outside_input(struct device *d, uint64_t drawn)
     return 1;
 }
 
-/* step 6: the window's last address is not enough for a record of two bytes or more */
+/* step 6: the window ends within the record's memory, or starts within it */
 static int record_outside_window(struct device *d, uint64_t drawn)
 {
     if (d->state.live == 0)
         return 0;
-    uint64_t *w = RECORD(d, pick(drawn >> 1, d->state.live));
+    const uint64_t *w = RECORD(d, pick(drawn >> 1, d->state.live));
     size_t g = w[0] >> 32;
-    w[3] = (drawn & 1) ? d->state.settings.lasts[g] : d->state.settings.firsts[g] - 1;
+    if (drawn & 1)
+        d->state.settings.lasts[g] = w[3] + (w[2] - w[1]) - 1;
+    else
+        d->state.settings.firsts[g] = w[3] + 1;
     return 1;
 }
 
@@ -147,7 +165,9 @@ const struct way record_ways[] = {
     WAY(domain_gone),
     WAY(record_flag_4),
     WAY(record_empty),
-    WAY(record_unaligned),
+    WAY(virt_start_unaligned),
+    WAY(virt_end_unaligned),
+    WAY(phys_start_unaligned),
     WAY(record_outside_input),
     WAY(record_outside_window),
     WAY(records_overlap),

@@ -52,13 +52,23 @@ static uint64_t draw_address(struct random *r, const struct viommu_state *s)
     return draw_start(r, s) + below(r, granularity(s));
 }
 
+/* One of the first multiples of the granularity in the guest's window, or now and then any address near its start. */
+static uint64_t draw_phys(struct random *r, const struct viommu_state *s, uint8_t guest)
+{
+    uint64_t grain = granularity(s);
+    uint64_t first = s->settings.firsts[guest % VIOMMU_GUESTS];
+    if (once_in(r, 8))
+        return first + below(r, 0x800);
+    return first + (grain - first % grain) % grain + grain * below(r, 4);
+}
+
 /* A MAP of one to four grains, most often inside the guest's window. */
 static struct readable draw_map(struct random *r, const struct viommu_state *s, uint8_t guest)
 {
     uint64_t grain = granularity(s);
     uint64_t start = draw_start(r, s);
     uint64_t end = start + grain * (1 + below(r, 4)) - 1;
-    uint64_t phys = s->settings.firsts[guest % VIOMMU_GUESTS] + below(r, 0x800);
+    uint64_t phys = draw_phys(r, s, guest);
     uint32_t flags = (uint32_t)below(r, 4);
     switch (below(r, 32)) {
     case 0: start = edge(r); break;

@@ -85,7 +85,7 @@ static int record_good(const struct viommu_state *s, const uint64_t *w)
         return 0;
     if (w[4] > (VIOMMU_FLAG_READ | VIOMMU_FLAG_WRITE) || w[2] <= w[1])
         return 0;
-    if (w[1] % granularity != 0 || (w[2] + 1) % granularity != 0)
+    if (w[1] % granularity != 0 || w[3] % granularity != 0 || (w[2] + 1) % granularity != 0)
         return 0;
     if (w[1] < s->settings.input.start || s->settings.input.end < w[2])
         return 0;

@@ -85,17 +85,31 @@ static void show_steps_2_and_3(struct driver d)
 static void show_steps_4_and_5(struct driver d)
 {
     show_word("step 4: virt_start not aligned", d, 6, 0x3800);
+    show_word("step 4: phys_start not aligned", d, 8, 0x80003800);
+    show_word("step 4: phys_start by one address", d, 8, 0x80003001);
     show_word("step 4: virt_end + 1 not aligned", d, 7, 0x3ffe);
     show_words("the input range's last page", d, 6, 0xfffff000, 7, 0xffffffff);
     show_words("step 5: virt_end outside the input range", d, 6, 0xfffff000, 7, 0x100000fff);
 }
 
-/* Step 6. */
+/* Step 6: by a page, and with a granularity of 1, which lets every phys_start pass step 4, by a byte. */
 static void show_step_6(struct driver d)
 {
     show_word("the window's last page", d, 8, 0x8ffff000);
+    show_words("step 6: past the window by a page", d, 7, 0x4fff, 8, 0x8ffff000);
+    show_word("step 6: before the window by a page", d, 8, 0x7ffff000);
+    d.state.settings.mask = 0x8000000000000001;
+    show_word("granularity 1: phys_start at any address", d, 8, 0x80003001);
     show_word("step 6: past the window by a byte", d, 8, 0x8ffff001);
     show_word("step 6: before the window by a byte", d, 8, 0x7fffffff);
+}
+
+/* The lowest bit of a mask of several: the second record's phys_start is a multiple of 0x1000 and not of 0x2000. */
+static void show_mask(struct driver d)
+{
+    d.state.settings.mask = 0x3000;
+    show("several mask bits", &d);
+    show_word("several mask bits: half of the lowest", d, 8, 0x80003800);
 }
 
 void show_records(const struct driver *sound)
@@ -109,4 +123,5 @@ void show_records(const struct driver *sound)
     show_steps_2_and_3(*sound);
     show_steps_4_and_5(*sound);
     show_step_6(*sound);
+    show_mask(*sound);
 }

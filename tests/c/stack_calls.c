@@ -155,7 +155,7 @@ static void mappings(void)
     worked("MAP of less than nothing", &on->room, 0, map_of(2, 0, start, 3), VIOMMU_STATUS_RANGE);
     worked("MAP of parts of pages", &on->room, 0, map(1, PAGE, PAGE + 1, start, 3), VIOMMU_STATUS_RANGE);
     worked("MAP past the input range", &on->room, 0, map_of(1, 1 << 20, start, 3), VIOMMU_STATUS_RANGE);
-    worked("MAP out of the window", &on->room, 0, map_of(1, 1, start - 1, 3), VIOMMU_STATUS_FAULT);
+    worked("MAP out of the window", &on->room, 0, map_of(1, 1, start - PAGE, 3), VIOMMU_STATUS_FAULT);
     worked("MAP that overlaps", &on->room, 0, map_of(1, 100, start, 3), VIOMMU_STATUS_INVAL);
     worked("MAP on a region", &on->room, 0, map_of(RESERVED_PAGE, RESERVED_PAGE, start, 3), VIOMMU_STATUS_INVAL);
     worked("MAP on the last region", &on->room, 0, map_of(RESERVED_PAGE + 6, RESERVED_PAGE + 6, start, 3), VIOMMU_STATUS_INVAL);

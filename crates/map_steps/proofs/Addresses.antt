@@ -14,7 +14,7 @@ use Rattle.rules.specs.Sizes.{topAddress}
 use Rattle.rules.specs.declared.InputRange.{InputRange}
 use Rattle.rules.specs.declared.Mapping.{Mapping}
 use Rattle.rules.specs.Requests.{OK}
-use Rattle.rules.specs.Handlers.{statusOf, outside, granularity, formChain, formSteps}
+use Rattle.rules.specs.Handlers.{statusOf, outside, granularity, aligned, formChain, formSteps}
 use Rattle.rules.proofs.Chains.{status-passes}
 use Rattle.map_steps.specs.Forms.{limits, formGood}
 
@@ -47,10 +47,10 @@ next-aligned e g h =
     ne-eqb (e % g) (g - 1) (λ x. omega arith) ∙ sym (ne-eqb ((e + 1) % g) 0 (λ x. omega arith)))
     (eq-or-lt-of-le m)
 
--- where no bit is set, only the addresses from the first to the last of all are aligned
-pub no-bit : (s e : ℕ) → s < 2 ^ 64 → e < 2 ^ 64 → (eqb s 0 && eqb e topAddress) ≡ (eqb (s % granularity 0) 0 && eqb ((e + 1) % granularity 0) 0)
+-- where no bit is set, only the addresses from the first to the last of all are aligned, and only to the first
+pub no-bit : (s p e : ℕ) → s < 2 ^ 64 → p < 2 ^ 64 → e < 2 ^ 64 → (eqb s 0 && (eqb p 0 && eqb e topAddress)) ≡ (aligned 0 s && (aligned 0 p && aligned 0 (e + 1)))
 unfolding granularity trailingZeros
-no-bit s e h k = rw (← next-aligned e (2 ^ 64) (omega arith), mod-eq-of-lt h, mod-eq-of-lt k)
+no-bit s p e h j k = rw (← next-aligned e (2 ^ 64) (omega arith), mod-eq-of-lt h, mod-eq-of-lt j, mod-eq-of-lt k)
 
 -- the length of the addresses from a to b fits from p to l
 pub sum-within : (a b p l : ℕ) → a ≤ b → p ≤ l → leb (b - a) (l - p) ≡ leb (p + b - a) l
@@ -84,12 +84,12 @@ module _ (mask : ℕ) (input : InputRange) (first last : ℕ) (r : Mapping) wher
   unfolding formSteps
   form-empty h = rw (le-leb (r .end) (r .start) h)
 
-  pub form-tests : (a w : Bool) → r .start < r .end → a ≡ (eqb (r .start % granularity mask) 0 && eqb ((r .end + 1) % granularity mask) 0)
+  pub form-tests : (a w : Bool) → r .start < r .end → a ≡ (aligned mask (r .start) && (aligned mask (r .phys) && aligned mask (r .end + 1)))
       → w ≡ (leb (r .start) (r .end) && (leb first (r .phys) && leb (r .phys + r .end - r .start) last))
       → statusOf (formChain (ltb 3 (r .flags)) false (not a) (ltb (r .start) (input .start) || ltb (input .end) (r .end)) (not w)) ≡ statusOf (formSteps (limits mask input first last) r)
   unfolding formSteps
   form-tests a w h ea ew =
-      rw (ea, ew, lt-leb (r .end) (r .start) h, ends-out (input .start) (input .end) (r .start) (r .end) (omega arith), window-out first last (r .phys) (r .start) (r .end) (omega arith), not-both (eqb (r .start % granularity mask) 0) (eqb ((r .end + 1) % granularity mask) 0))
+      rw (ea, ew, lt-leb (r .end) (r .start) h, ends-out (input .start) (input .end) (r .start) (r .end) (omega arith), window-out first last (r .phys) (r .start) (r .end) (omega arith), not-both (aligned mask (r .start)) (aligned mask (r .phys) && aligned mask (r .end + 1)), not-both (aligned mask (r .phys)) (aligned mask (r .end + 1)))
 
   pub form-passes : (x : ℕ) → x ≡ statusOf (formSteps (limits mask input first last) r) → eqb x OK ≡ formGood mask input first last r
   unfolding formGood

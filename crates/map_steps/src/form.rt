@@ -1,9 +1,9 @@
 // Steps 2 to 6 of MAP for a record.
 ghost use mathlib.Core.Path.{_≡_};
 ghost use mathlib.Core.Bool.{_&&_, _||_};
-ghost use Prim.Native.Nat.{_+_, _-_, _%_};
-ghost use lib.Dec.{leb, ltb, eqb};
-ghost use Rattle.rules.specs.Handlers.{statusOf, granularity, formChain, formSteps};
+ghost use Prim.Native.Nat.{_+_, _-_};
+ghost use lib.Dec.{leb, ltb};
+ghost use Rattle.rules.specs.Handlers.{statusOf, aligned, formChain, formSteps};
 ghost use Rattle.map_steps.specs.Forms.{limits, formGood};
 use rules::InputRange;
 use rules::Mapping;
@@ -13,16 +13,16 @@ use rules::requests::OK;
 use rules::requests::RANGE;
 use rules::sizes::TOP_ADDRESS;
 
-// Whether start is a multiple of the mask's lowest set bit, and end one less than a multiple; where no bit is set, whether
-// they are the first and the last address there is.
-fn aligned(mask: u64, start: u64, end: u64) -> bool
-    ensures { λ r. ⌜ r ≡ (eqb (start % granularity mask) 0 && eqb ((end + 1) % granularity mask) 0) ⌝ }
+// Whether start and phys are multiples of the mask's lowest set bit, and end one less than a multiple; where no bit is set,
+// whether they are the first and the last address there is.
+fn aligned(mask: u64, start: u64, phys: u64, end: u64) -> bool
+    ensures { λ r. ⌜ r ≡ (aligned mask start && (aligned mask phys && aligned mask (end + 1))) ⌝ }
 {
     if mask == 0 {
-        return (start == 0) & (end == TOP_ADDRESS);
+        return (start == 0) & ((phys == 0) & (end == TOP_ADDRESS));
     }
     let g = 1u64 << u64::trailing_zeros(mask);
-    (start % g == 0) & (end % g == g - 1)
+    (start % g == 0) & ((phys % g == 0) & (end % g == g - 1))
 }
 
 // Whether the addresses from phys on, as many as from start to end, lie in the window from first to last; false where there
@@ -69,7 +69,7 @@ pub fn form_status(mask: u64, input: InputRange, first: u64, last: u64, r: Mappi
     if r.end <= r.start {
         return first_form(flags, true, false, false, false);
     }
-    let grain = !aligned(mask, r.start, r.end);
+    let grain = !aligned(mask, r.start, r.phys, r.end);
     let beyond = (r.start < input.start) | (input.end < r.end);
     let window = !in_window(first, last, r.phys, r.start, r.end);
     first_form(flags, false, grain, beyond, window)

@@ -19,7 +19,7 @@ use Rattle.rules.specs.State.{Attachment}
 use Rattle.rules.specs.Guests.{Own, Part}
 use Rattle.rules.specs.Requests.{OK, statusIn}
 use Rattle.rules.specs.Sound.{passes}
-use Rattle.rules.specs.Handlers.{Steps, orOK, statusOf, settle, outside, isIn, domainExists, listed, attachmentOf, ofKey, regionsOf, regionsIn, onRegion, granularity, attachSteps, detachSteps, formSteps, recordSteps, mapSteps, unmapSteps}
+use Rattle.rules.specs.Handlers.{Steps, orOK, statusOf, settle, outside, isIn, domainExists, listed, attachmentOf, ofKey, regionsOf, regionsIn, onRegion, aligned, attachSteps, detachSteps, formSteps, recordSteps, mapSteps, unmapSteps}
 
 -- STATUSES
 
@@ -92,8 +92,9 @@ detaches o p d e z c = record { owned = not-false _ (c .1 .0); here = not-false 
 pub record Formed (o : Own) (r : Mapping) : Type 0 where
   pub known : r .flags ≤ 3
   pub wide : r .start < r .end
-  pub start-aligned : eqb (r .start % granularity (o .mask)) 0 ≡ true
-  pub end-aligned : eqb ((r .end + 1) % granularity (o .mask)) 0 ≡ true
+  pub start-aligned : aligned (o .mask) (r .start) ≡ true
+  pub phys-aligned : aligned (o .mask) (r .phys) ≡ true
+  pub end-aligned : aligned (o .mask) (r .end + 1) ≡ true
   pub start-within : (o .input .start ≤ r .start) × (r .start ≤ o .input .end)
   pub end-within : (o .input .start ≤ r .end) × (r .end ≤ o .input .end)
   pub phys-within : (o .first ≤ r .phys) × (r .phys ≤ o .last)
@@ -103,13 +104,15 @@ pub formed : (o : Own) (r : Mapping) → Clear (formSteps o r) → Formed o r
 unfolding formSteps
 formed o r c =
     let grain = nor _ _ (c .1 .1 .0) in
+    let rest = nor _ _ (grain .1) in
     let input = nor _ _ (c .1 .1 .1 .0) in
     let window = nor _ _ (c .1 .1 .1 .1 .0) in
     record {
       known = ltb-false 3 (r .flags) (c .0);
       wide = leb-false (r .end) (r .start) (c .1 .0);
       start-aligned = not-false _ (grain .0);
-      end-aligned = not-false _ (grain .1);
+      phys-aligned = not-false _ (rest .0);
+      end-aligned = not-false _ (rest .1);
       start-within = outside-high _ _ _ (input .0);
       end-within = outside-high _ _ _ (input .1);
       phys-within = outside-high _ _ _ (window .0);

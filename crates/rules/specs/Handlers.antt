@@ -176,6 +176,10 @@ handleDetach o p d e reserved = settle (statusOf (detachSteps o p d e reserved))
 unfoldable pub granularity : ℕ → ℕ
 granularity mask = 2 ^ trailingZeros 64 mask
 
+-- x is "a multiple of g", the granularity of the mask
+abbrev pub aligned : ℕ → ℕ → Bool
+aligned mask x = eqb (x % granularity mask) 0
+
 -- the chain of MAP's steps 2 to 6, which are about a record alone, over what their tests give
 abbrev pub formChain : (flags order grain input window : Bool) → Steps
 formChain flags order grain input window =
@@ -183,7 +187,8 @@ formChain flags order grain input window =
     (flags, INVAL)
     -- "3. virt_end ≤ virt_start: RANGE"
     ∷ (order, RANGE)
-    -- "4. virt_start or virt_end + 1 not a multiple of g: RANGE"
+    -- "4. virt_start or virt_end + 1 not a multiple of g: RANGE", which "forgot phys_start. The standard aligns virt_start,
+    -- phys_start and virt_end + 1."
     ∷ (grain, RANGE)
     -- "5. any address outside the input range: RANGE"
     ∷ (input, RANGE)
@@ -197,7 +202,7 @@ formSteps o r =
     formChain
     (ltb 3 (r .flags))
     (leb (r .end) (r .start))
-    (not (eqb (r .start % granularity (o .mask)) 0) || not (eqb ((r .end + 1) % granularity (o .mask)) 0))
+    (not (aligned (o .mask) (r .start)) || (not (aligned (o .mask) (r .phys)) || not (aligned (o .mask) (r .end + 1))))
     (outside (o .input .start) (o .input .end) (r .start) || outside (o .input .start) (o .input .end) (r .end))
     (outside (o .first) (o .last) (r .phys) || outside (o .first) (o .last) (r .phys + r .end - r .start))
 

@@ -13,3 +13,4 @@ pub mod History
 pub mod Claims
 pub mod Examples
 pub mod RegionExamples
+pub mod AlignmentExamples

@@ -9,10 +9,15 @@ pub fn page(configuration: &Configuration) -> u64 {
     1 << configuration.page_size_mask.trailing_zeros()
 }
 
+/// The first multiple of the granularity from an address on; 0 after the last.
+pub fn page_from(configuration: &Configuration, address: u64) -> u64 {
+    let page = page(configuration);
+    address.div_ceil(page).wrapping_mul(page)
+}
+
 /// The first address of the first whole page of the input range.
 pub fn first_page(configuration: &Configuration) -> u64 {
-    let page = page(configuration);
-    configuration.input_range.start().div_ceil(page).wrapping_mul(page)
+    page_from(configuration, *configuration.input_range.start())
 }
 
 /// The first address of a page near the start of the input range.
@@ -46,8 +51,8 @@ pub fn to_map(random: &mut Random, configuration: &Configuration) -> (u64, u64) 
     }
 }
 
-/// Where a MAP of this range is to land: mostly in the guest's window, else just past it,
-/// around 2^64, or in another's window.
+/// Where a MAP of this range is to land: mostly on a page of the guest's window, else off the
+/// pages, just past the window, around 2^64, or in another's window.
 pub fn to_land(
     random: &mut Random,
     configuration: &Configuration,
@@ -60,6 +65,7 @@ pub fn to_land(
     let page = page(configuration);
     let size_less_one = virt.1.wrapping_sub(virt.0);
     let at_the_end = own.window.end().wrapping_sub(size_less_one);
+    let first_page = page_from(configuration, *own.window.start());
     match random.below(60) {
         0..=3 => at_the_end,
         4 => at_the_end.wrapping_add(1),
@@ -69,8 +75,11 @@ pub fn to_land(
         8 => own.window.start().wrapping_sub(page),
         9 => *random.pick(&configuration.guests).window.start(),
         10..=14 => own.window.start().wrapping_add(random.below(0x800)),
-        15..=20 => own.window.start().wrapping_add(random.below(8).wrapping_mul(page)),
-        _ => *own.window.start(),
+        15 => own.window.start().wrapping_sub(page / 2),
+        16 => *own.window.start(),
+        17..=22 => first_page.wrapping_add(random.below(8).wrapping_mul(page)),
+        23 => at_the_end / page * page,
+        _ => first_page,
     }
 }
 

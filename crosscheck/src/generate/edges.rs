@@ -20,11 +20,12 @@ type Script = (Configuration, Vec<Record>);
 
 /// A journal about one edge.
 pub fn journal(random: &mut Random) -> Vec<Record> {
-    let edges: [fn(&mut Random) -> Script; 15] = [
+    let edges: [fn(&mut Random) -> Script; 16] = [
         ranges::top_of_space,
         ranges::end_of_window,
         ranges::wrapping_sums,
         ranges::several_mask_bits,
+        ranges::physical_starts,
         ranges::domain_range,
         ranges::input_range,
         life::shares_of_256,

@@ -41,9 +41,10 @@ pub fn flood(random: &mut Random, configuration: &Configuration, guest: Guest) -
     let own = &configuration.guests[guest.place()];
     // A range has at least two addresses, even with a granularity of 1.
     let size = addresses::page(configuration).max(2);
+    let phys = addresses::page_from(configuration, *own.window.start());
     let mut maps: Vec<Record> = (0..u64::from(own.share) + random.below(4))
         .map(|place| (place * size, place * size + size - 1))
-        .map(|virt| Record::map(guest, domain, virt, *own.window.start(), 3))
+        .map(|virt| Record::map(guest, domain, virt, phys, 3))
         .collect();
     random.shuffle(&mut maps);
     let mut records = vec![Record::attach(guest, domain, endpoint)];
@@ -56,7 +57,7 @@ pub fn flood(random: &mut Random, configuration: &Configuration, guest: Guest) -
         _ => None,
     });
     records.push(Record::attach(guest, domain, endpoint));
-    records.push(Record::map(guest, domain, (0, size - 1), *own.window.start(), 1));
+    records.push(Record::map(guest, domain, (0, size - 1), phys, 1));
     records
 }
 

@@ -238,6 +238,8 @@ fn a_record_has_whole_pages() {
     refused_record(0, |record| record.virt_start += 0x800);
     refused_record(2, |record| record.virt_end -= 1);
     refused_record(3, |record| record.virt_end += 0x800);
+    refused_record(0, |record| record.phys_start += 1);
+    refused_record(3, |record| record.phys_start += 0x800);
 }
 
 /// Step 5.
@@ -250,10 +252,16 @@ fn a_record_lies_in_the_input_range() {
 /// Step 6, also where the physical end would pass 2^64 and come back into the window.
 #[test]
 fn a_record_lands_in_the_window() {
-    refused_record(0, |record| record.phys_start -= 1);
-    refused_record(3, |record| record.phys_start = 0x9fff_f001);
+    refused_record(0, |record| record.phys_start -= PAGE);
     refused_record(3, |record| record.phys_start = 0xa000_0000);
+    for (place, phys_start) in [(0, 0x7fff_ffff), (3, 0x9fff_f001)] {
+        refused(|device| {
+            device.configuration.page_size_mask = 1;
+            device.table.records[place].phys_start = phys_start;
+        });
+    }
     refused(|device| {
+        device.configuration.page_size_mask = 1;
         device.configuration.guests[1].window = 0x9000_0000..=u64::MAX;
         device.table.records[3].phys_start = u64::MAX - 0xffe;
     });

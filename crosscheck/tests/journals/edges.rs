@@ -64,6 +64,7 @@ fn the_widest_granularity() {
         &[
             attach(),
             (map((0, half), 0), RANGE),
+            (map((0, half - 1), half / 2), RANGE),
             (map((1, half - 1), 0), RANGE),
             (map((0, TOP), 0), OK),
             (Record::read(E8, 0xfedc_ba98_7654_3210), "A 0 fedcba9876543210"),
@@ -87,21 +88,62 @@ fn only_the_lowest_mask_bit_counts() {
             (map((0x800, 0x17ff), W0), RANGE),
             (map((0x1000, 0x17ff), W0), RANGE),
             (map((0x1800, 0x1fff), W0), RANGE),
-            (map((0x1000, 0x1fff), W0), OK),
+            (map((0x1000, 0x1fff), W0 + 0x800), RANGE),
+            (map((0x1000, 0x1fff), W0 + 0x1000), OK),
             (map((0x2000, 0x4fff), W0), OK),
         ],
     );
 }
 
-/// Step 4 speaks of virt_start and virt_end alone: a physical address need not be aligned.
+/// "The standard aligns virt_start, phys_start and virt_end + 1. Answer RANGE": in step 4, so an
+/// address outside the window is RANGE too.
 #[test]
-fn a_physical_address_need_not_be_aligned() {
+fn a_physical_start_is_aligned() {
     expect(
         &two_guests(),
         &[
             attach(),
+            (map((0x1000, 0x1fff), W0 + 0x123), RANGE),
+            (map((0x1000, 0x1fff), W0 + 0xfff), RANGE),
+            (map((0x1000, 0x1fff), 0x7000_0001), RANGE),
+            (map((0x1000, 0x1fff), 0x7000_0000), FAULT),
+            (map((0x1000, 0x2fff), 0x8fff_e001), RANGE),
+            (map((0x1000, 0x1fff), TOP), RANGE),
+            (Record::read(E8, 0x1001), "A 8"),
+            (map((0x1000, 0x1fff), W0 + 0x1000), OK),
+            (Record::read(E8, 0x1001), "A 0 0000000080001001"),
+        ],
+    );
+}
+
+/// With a granularity of 1 every physical address is aligned, and the window ends to the address.
+#[test]
+fn any_physical_start_with_mask_1() {
+    expect(
+        &with_mask(1),
+        &[
+            attach(),
+            (map((0x1000, 0x2fff), 0x8fff_e001), FAULT),
+            (map((0x1000, 0x1fff), W0 - 1), FAULT),
             (map((0x1000, 0x1fff), W0 + 0x123), OK),
             (Record::read(E8, 0x1001), "A 0 0000000080000124"),
+        ],
+    );
+}
+
+/// A window may start within a page, which then can't be mapped: its start is RANGE, the page's
+/// FAULT.
+#[test]
+fn a_window_that_starts_within_a_page() {
+    let mut configuration = two_guests();
+    configuration.guests[0].window = 0x8000_0800..=0x8fff_ffff;
+    expect(
+        &configuration,
+        &[
+            attach(),
+            (map((0x1000, 0x1fff), 0x8000_0800), RANGE),
+            (map((0x1000, 0x1fff), 0x8000_0000), FAULT),
+            (map((0x1000, 0x1fff), 0x8000_1000), OK),
         ],
     );
 }
@@ -114,7 +156,6 @@ fn the_end_of_the_window() {
         &[
             attach(),
             (map((0x1000, 0x2fff), 0x8fff_f000), FAULT),
-            (map((0x1000, 0x2fff), 0x8fff_e001), FAULT),
             (Record::read(E8, 0x1000), "A 8"),
             (map((0x1000, 0x2fff), 0x8fff_e000), OK),
             (Record::read(E8, 0x2fff), "A 0 000000008fffffff"),
@@ -129,7 +170,7 @@ fn the_start_of_the_window() {
         &two_guests(),
         &[
             attach(),
-            (map((0x1000, 0x1fff), W0 - 1), FAULT),
+            (map((0x1000, 0x1fff), W0 - 0x1000), FAULT),
             (map((0x1000, 0x1fff), W1), FAULT),
             (map((0x1000, 0x1fff), W0), OK),
             (Record::read(E8, 0x1000), "A 0 0000000080000000"),

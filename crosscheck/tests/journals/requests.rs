@@ -144,14 +144,15 @@ fn the_order_of_map() {
             (map(1, READ), OK),
             (map(3, READ), OK),
             // 1: the domain does not exist for this guest.
-            (broken(D2, (0x2000, 0x1000), 0, 4), NOENT),
+            (broken(D2, (0x2000, 0x1000), 1, 4), NOENT),
             // 2: a flag bit other than READ and WRITE.
-            (broken(D1, (0x2000, 0x1000), 0, 4), INVAL),
-            (broken(D1, (0x2000, 0x1000), 0, 0x8000_0001), INVAL),
+            (broken(D1, (0x2000, 0x1000), 1, 4), INVAL),
+            (broken(D1, (0x2000, 0x1000), 1, 0x8000_0001), INVAL),
             // 3, 4, 5: RANGE before FAULT.
             (broken(D1, (0x1fff, 0x1000), 0, READ), RANGE),
             (broken(D1, (0x1001, 0x1fff), 0, READ), RANGE),
             (broken(D1, (0x1000, 0x1ffe), 0, READ), RANGE),
+            (broken(D1, (0x1000, 0x1fff), 1, READ), RANGE),
             (broken(D1, (0x1000, 0x1_0000_0fff), 0, READ), RANGE),
             // 6: FAULT before the overlap.
             (broken(D1, (0x1000, 0x1fff), 0, READ), FAULT),

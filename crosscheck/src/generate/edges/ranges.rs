@@ -60,6 +60,7 @@ pub fn end_of_window(random: &mut Random) -> Script {
         first.wrapping_sub(page),
         last,
         last.wrapping_add(1),
+        addresses::page_from(&configuration, first),
     ];
     random.shuffle(&mut places);
     let mut calls = vec![Record::attach(GUEST, DOMAIN, ENDPOINT)];
@@ -77,6 +78,7 @@ pub fn wrapping_sums(random: &mut Random) -> Script {
     let first = random.pick(&[0, 0x1000, 0x8000_0000]);
     configuration.guests[0].window = first..=u64::MAX;
     configuration.page_size_mask = random.pick(&[0x1000, 1]);
+    let page = addresses::page(&configuration);
     let mut calls = vec![Record::attach(GUEST, DOMAIN, ENDPOINT)];
     for _ in 0..1 + random.below(12) {
         let virt = match random.below(3) {
@@ -90,6 +92,7 @@ pub fn wrapping_sums(random: &mut Random) -> Script {
             2 => (u64::MAX - (virt.1 - virt.0)).wrapping_add(1),
             _ => u64::MAX - random.below(0x5000),
         };
+        let phys = if random.chance(75) { phys / page * page } else { phys };
         calls.push(Record::map(GUEST, DOMAIN, virt, phys, 3));
         calls.push(Record::read(ENDPOINT, virt.1));
         calls.push(Record::write(ENDPOINT, virt.0));
@@ -110,8 +113,29 @@ pub fn several_mask_bits(random: &mut Random) -> Script {
         let step = random.pick(&[lowest, lowest, lowest * 2, (lowest / 2).max(1)]);
         let start = step * random.below(24);
         let end = start + step * (1 + random.below(3)) - 1;
-        calls.push(Record::map(GUEST, DOMAIN, (start, end), 0x8000_0000 + random.below(3), 3));
+        let phys = 0x8000_0000 + random.pick(&[0, 0, lowest, lowest * 3, lowest / 2, 1]);
+        calls.push(Record::map(GUEST, DOMAIN, (start, end), phys, 3));
         calls.push(Record::read(ENDPOINT, end));
+    }
+    (configuration, calls)
+}
+
+/// phys_start on a page, within one and at its last address, inside the window and outside it,
+/// in windows whose ends are those of pages or not.
+pub fn physical_starts(random: &mut Random) -> Script {
+    let mut configuration = setup::plain();
+    configuration.page_size_mask = random.pick(&[0x1000, 0x3000, 0x4020_1000, 0x10, 1]);
+    configuration.guests[0].share = 32;
+    let page = addresses::page(&configuration);
+    let first = 0x8000_0000 + random.pick(&[0, 1, page / 2]);
+    let last = first + random.pick(&[0x8fff, 0x87ff, 0x8ffe]);
+    configuration.guests[0].window = first..=last;
+    let mut calls = vec![Record::attach(GUEST, DOMAIN, ENDPOINT)];
+    for start in (0..random.below(24)).map(|place| place * 0x1000) {
+        let near = random.pick(&[0x7000_0000, first - page, 0x8000_4000, last - 0xfff, last + 1]);
+        let phys = near / page * page + random.pick(&[0, 0, page, page / 2, page - 1, 1]);
+        calls.push(Record::map(GUEST, DOMAIN, (start, start + 0xfff), phys, 3));
+        calls.push(Record::read(ENDPOINT, start));
     }
     (configuration, calls)
 }

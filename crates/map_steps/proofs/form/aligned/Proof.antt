@@ -20,7 +20,7 @@ returns : tie.Need-returns
 returns c =
     let a = c .before .args in
     let m : a .mask ≡ 0 = omega arith in
-    rw m (no-bit (a .start) (a .end) (c .before .fits .start .fits) (c .before .fits .end .fits))
+    rw m (no-bit (a .start) (a .phys) (a .end) (c .before .fits .start .fits) (c .before .fits .phys .fits) (c .before .fits .end .fits))
 
 -- a mask that is not zero has a lowest bit
 above : (c : tie.Else1) → 0 < c .before .args .mask
@@ -38,6 +38,9 @@ rem-result c = omega (arith, unit (c .before .args .mask) (above c) (c .before .
 rem-result-2 : tie.Need-rem-result-2
 rem-result-2 c = omega (arith, unit (c .before .args .mask) (above c) (c .before .fits .mask .fits))
 
+rem-result-3 : tie.Need-rem-result-3
+rem-result-3 c = omega (arith, unit (c .before .args .mask) (above c) (c .before .fits .mask .fits))
+
 sub-result : tie.Need-sub-result
 sub-result c = omega (arith, unit (c .before .args .mask) (above c) (c .before .fits .mask .fits))
 
@@ -46,7 +49,7 @@ unfolding granularity
 returns-2 c =
     let a = c .before .args in
     let k = trailingZeros 64 (a .mask) in
-    rw (one-shl k (low (a .mask) (above c) (c .before .fits .mask .fits))) (ap (λ (b : Bool). eqb (a .start % 2 ^ k) 0 && b) (next-aligned (a .end) (2 ^ k) (power-above k)))
+    rw (one-shl k (low (a .mask) (above c) (c .before .fits .mask .fits))) (ap (λ (b : Bool). eqb (a .start % 2 ^ k) 0 && (eqb (a .phys % 2 ^ k) 0 && b)) (next-aligned (a .end) (2 ^ k) (power-above k)))
 
 pub aligned-spec : {M : Type 1} → statement M
-aligned-spec = tie.close (tie.spec returns cast-g shl-g rem-result rem-result-2 sub-result returns-2)
+aligned-spec = tie.close (tie.spec returns cast-g shl-g rem-result rem-result-2 rem-result-3 sub-result returns-2)
