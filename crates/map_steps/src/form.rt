@@ -14,7 +14,7 @@ use rules::requests::RANGE;
 use rules::sizes::TOP_ADDRESS;
 
 // Whether start and phys are multiples of the mask's lowest set bit, and end one less than a multiple; where no bit is set,
-// whether they are the first and the last address there is.
+// whether start and phys are the first address there is, and end the last.
 fn aligned(mask: u64, start: u64, phys: u64, end: u64) -> bool
     ensures { λ r. ⌜ r ≡ (aligned mask start && (aligned mask phys && aligned mask (end + 1))) ⌝ }
 {

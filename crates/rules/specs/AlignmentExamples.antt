@@ -9,9 +9,10 @@ use lib.Dec.{eqb}
 use lib.Count.{trailingZeros}
 use Rattle.rules.specs.declared.Domain.{Domain}
 use Rattle.rules.specs.declared.Mapping.{Mapping}
-use Rattle.rules.specs.Guests.{Own}
+use Rattle.rules.specs.State.{noLog}
+use Rattle.rules.specs.Guests.{Own, Part}
 use Rattle.rules.specs.Requests.{OK, RANGE, FAULT}
-use Rattle.rules.specs.Handlers.{statusOf, outside, isIn, domainExists, granularity, recordSteps, formSteps}
+use Rattle.rules.specs.Handlers.{settle, outside, isIn, domainExists, onRegion, granularity, formSteps, handleMap}
 use Rattle.rules.specs.Sound.{guest, recordGood}
 
 -- a mask, a window from first to 0x8fffffff, and the status of a MAP of one page to phys
@@ -66,25 +67,29 @@ domain = record { 0 = 0 }
 page : Example → Mapping
 page e = record { key = 0; start = 0x1000; end = 0x1fff; phys = e .phys; flags = 1 }
 
--- the status that MAP's steps 1 to 6 give
+-- the guest's part, before its first MAP
+fresh : Part
+fresh = record { attachments = some domain ∷ []; records = []; log = noLog }
+
+-- the status that MAP gives
 pub shown : Example → ℕ
-shown e = statusOf (recordSteps (owner e) (some domain ∷ []) domain (page e))
+shown e = handleMap (owner e) fresh domain (page e) .0
 
 pub wanted : Example → ℕ
 wanted e = e .wants
 
 pub worked-examples : L.map shown examples ≡ L.map wanted examples
-unfolding shown wanted examples owner domain page trailingZeros outside isIn domainExists granularity formSteps
+unfolding shown wanted examples owner domain page fresh trailingZeros settle outside isIn domainExists onRegion granularity formSteps handleMap
 worked-examples = refl
 
 -- whether a sound table may hold the record
 pub held : Example → Bool
-held e = recordGood (owner e) (some domain ∷ []) (page e)
+held e = recordGood (owner e) (fresh .attachments) (page e)
 
 -- "soundness follows": it may exactly where MAP would record it
 pub wantedHeld : Example → Bool
 wantedHeld e = eqb (e .wants) OK
 
 pub soundness-follows : L.map held examples ≡ L.map wantedHeld examples
-unfolding held wantedHeld examples owner domain page trailingZeros outside isIn domainExists granularity formSteps recordGood
+unfolding held wantedHeld examples owner domain page fresh trailingZeros outside isIn domainExists granularity formSteps recordGood
 soundness-follows = refl
