@@ -1,5 +1,5 @@
 -- A request's steps where all of them pass, as facts with names, and what its status settles.
-use Prim.Native.Nat.{ℕ, _+_, _-_, _%_, _≤_, _<_}
+use Prim.Native.Nat.{ℕ, _+_, _-_, _≤_, _<_}
 use mathlib.Core.Path.{_≡_, refl, ap, _∙_}
 use mathlib.Core.Bool.{Bool, true, false, not, _&&_}
 use mathlib.Core.List.{List, [], _∷_, _++_}
@@ -19,7 +19,7 @@ use Rattle.rules.specs.State.{Attachment}
 use Rattle.rules.specs.Guests.{Own, Part}
 use Rattle.rules.specs.Requests.{OK, statusIn}
 use Rattle.rules.specs.Sound.{passes}
-use Rattle.rules.specs.Handlers.{Steps, orOK, statusOf, settle, outside, isIn, domainExists, listed, attachmentOf, ofKey, regionsOf, regionsIn, onRegion, aligned, attachSteps, detachSteps, formSteps, recordSteps, mapSteps, unmapSteps}
+use Rattle.rules.specs.Handlers.{Steps, orOK, statusOf, settle, outside, isIn, domainExists, listed, attachmentOf, ofKey, regionsOf, regionsIn, onRegion, attachSteps, detachSteps, formSteps, recordSteps, mapSteps, unmapSteps}
 
 -- STATUSES
 
@@ -88,14 +88,9 @@ pub record Detaches (o : Own) (p : Part) (d : Domain) (e : Endpoint) : Type 0 wh
 pub detaches : (o : Own) (p : Part) (d : Domain) (e : Endpoint) (z : ℕ) → Clear (detachSteps o p d e z) → Detaches o p d e
 detaches o p d e z c = record { owned = not-false _ (c .1 .0); here = not-false _ (c .1 .1 .0) }
 
--- MAP's steps 2 to 6
+-- of what MAP's steps 2 to 6 ask, what other proofs use
 pub record Formed (o : Own) (r : Mapping) : Type 0 where
-  pub known : r .flags ≤ 3
   pub wide : r .start < r .end
-  pub start-aligned : aligned (o .mask) (r .start) ≡ true
-  pub phys-aligned : aligned (o .mask) (r .phys) ≡ true
-  pub end-aligned : aligned (o .mask) (r .end + 1) ≡ true
-  pub start-within : (o .input .start ≤ r .start) × (r .start ≤ o .input .end)
   pub end-within : (o .input .start ≤ r .end) × (r .end ≤ o .input .end)
   pub phys-within : (o .first ≤ r .phys) × (r .phys ≤ o .last)
   pub phys-end-within : (o .first ≤ r .phys + r .end - r .start) × (r .phys + r .end - r .start ≤ o .last)
@@ -103,17 +98,10 @@ pub record Formed (o : Own) (r : Mapping) : Type 0 where
 pub formed : (o : Own) (r : Mapping) → Clear (formSteps o r) → Formed o r
 unfolding formSteps
 formed o r c =
-    let grain = nor _ _ (c .1 .1 .0) in
-    let rest = nor _ _ (grain .1) in
-    let input = nor _ _ (c .1 .1 .1 .0) in
+    let input = nor (outside (o .input .start) (o .input .end) (r .start)) _ (c .1 .1 .1 .0) in
     let window = nor _ _ (c .1 .1 .1 .1 .0) in
     record {
-      known = ltb-false 3 (r .flags) (c .0);
       wide = leb-false (r .end) (r .start) (c .1 .0);
-      start-aligned = not-false _ (grain .0);
-      phys-aligned = not-false _ (rest .0);
-      end-aligned = not-false _ (rest .1);
-      start-within = outside-high _ _ _ (input .0);
       end-within = outside-high _ _ _ (input .1);
       phys-within = outside-high _ _ _ (window .0);
       phys-end-within = outside-high _ _ _ (window .1);
