@@ -1,17 +1,12 @@
-//! Links the archives that `rt staticlib` wrote, named by the environment variable ARCHIVES.
+//! Links the archive that `rt staticlib` wrote, named by the environment variable VIOMMU_ARCHIVE.
 
 use std::env;
-use std::path::Path;
+use std::path::PathBuf;
 
 fn main() {
-    println!("cargo:rerun-if-env-changed=ARCHIVES");
-    let archives = env::var_os("ARCHIVES").expect("ARCHIVES names the archives, as PATH does");
-    for archive in env::split_paths(&archives) {
-        link(&archive.canonicalize().expect("the archive is there"));
-    }
-}
-
-fn link(archive: &Path) {
+    println!("cargo:rerun-if-env-changed=VIOMMU_ARCHIVE");
+    let archive = env::var_os("VIOMMU_ARCHIVE").expect("VIOMMU_ARCHIVE names the archive");
+    let archive = PathBuf::from(archive).canonicalize().expect("the archive is there");
     let folder = archive.parent().expect("a file stands in a folder");
     let stem = archive.file_stem().and_then(|stem| stem.to_str());
     let name = stem.and_then(|stem| stem.strip_prefix("lib")).expect("it is called libNAME.a");

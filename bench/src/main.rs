@@ -7,14 +7,11 @@
 //! The other calls are held against the second program as it is, whose state is changed in place and
 //! has no unused places. The archive's take the state by value and give it back; that copying is
 //! counted in, and how long it takes by itself is printed first.
-//!
-//! A lookup by itself, without the test, is held against one by Rust's `partition_point`.
 
 mod answers;
 mod archived;
 mod entries;
 mod flat;
-mod lookups;
 mod setting;
 
 use answers::{of_archive, of_second, Answer};
@@ -47,7 +44,6 @@ fn main() {
     println!("  a state handed over by value and back: {}", handing_over());
     for live in LIVE {
         println!("{live} live records:");
-        lookups::report(live, setting::SPREAD);
         let mut devices = Devices::with_live(live, setting::SPREAD);
         let unlisted = spread(&[setting::unlisted()]);
         let fetches = spread(&[Record::Fetch { guest: Guest(0), asked: 0 }]);
@@ -146,10 +142,10 @@ impl Devices {
 }
 
 /// The times of one call asked of either, part by part in turn.
-fn in_turn<C, A>(
-    calls: &[C],
-    mut one: impl FnMut(&C) -> A,
-    mut other: impl FnMut(&C) -> A,
+fn in_turn(
+    calls: &[Record],
+    mut one: impl FnMut(&Record) -> Answer,
+    mut other: impl FnMut(&Record) -> Answer,
 ) -> (Spread, Spread) {
     let (mut of_one, mut of_other) = (Vec::new(), Vec::new());
     for part in (0..ROUNDS).flat_map(|_| calls.chunks(PART)) {

@@ -8,7 +8,7 @@ use crosscheck::regions::Region;
 
 const ENDPOINTS: u32 = 32;
 const WINDOW: u64 = 0x1000_0000;
-pub const PAGE: u64 = 0x1000;
+const PAGE: u64 = 0x1000;
 
 /// How the endpoints and the live records are spread.
 #[derive(Clone, Copy)]
@@ -73,15 +73,15 @@ impl Setting {
         Record::map(self.owner(slot), self.domain(slot), (start, start + PAGE - 1), phys, 3)
     }
 
-    pub fn first_address(&self, slot: u32) -> u64 {
+    fn first_address(&self, slot: u32) -> u64 {
         2 * PAGE * u64::from(slot / (self.guests * self.domains))
     }
 
-    pub fn owner(&self, place: u32) -> Guest {
+    fn owner(&self, place: u32) -> Guest {
         Guest((place % self.guests) as u8)
     }
 
-    pub fn domain(&self, place: u32) -> Domain {
+    fn domain(&self, place: u32) -> Domain {
         Domain(1 + place / self.guests % self.domains)
     }
 }

@@ -9,6 +9,7 @@ use types.Run.{OneOf, miss}
 use lib.Dec.{leb}
 use lib.ListN.{get_or}
 use borrow.Author.Tests.{eq-eqb, ne_eqb, lt-ltb, le-ltb, lt-leb, le-leb}
+use Rattle.laws.proofs.Filters.{found-passes}
 use Rattle.rules.specs.declared.Guest.{Guest}
 use Rattle.rules.specs.declared.State.{State}
 use Rattle.rules.specs.declared.Mapping.{Mapping}
@@ -21,14 +22,12 @@ use Rattle.rules.specs.declared.Cause.TheVariants.{Unattached, Unmapped}
 use Rattle.rules.specs.declared.Access.{Access}
 use Rattle.rules.specs.contracts.Answer as answer
 use Rattle.rules.specs.Sizes.{max_endpoints, domain_span, top_address}
-use Rattle.rules.specs.Access.{fault_of}
+use Rattle.rules.specs.Access.{permits, find_mapping, fault_of}
 use Rattle.rules.proofs.Accesses.{permits-covers}
-use Rattle.table_search.specs.declared.Found.{Found}
-use Rattle.table_search.specs.declared.Found.TheVariants.{At, Nothing}
-use Rattle.table_lookup.specs.Lookup.{looked_up}
-use Rattle.table_search.specs.Outcomes.{found_of}
-use Rattle.table_lookup.proofs.Halved.{looked-permits}
-use Rattle.table_search.proofs.Outcomes.{found_at, found_nothing}
+use Rattle.table_lookup.specs.declared.Found.{Found}
+use Rattle.table_lookup.specs.declared.Found.TheVariants.{At, Nothing}
+use Rattle.table_lookup.specs.Outcomes.{found_of}
+use Rattle.table_lookup.proofs.Outcomes.{found_at, found_nothing}
 use Rattle.state_log.specs.Changes.{log_fault}
 use Rattle.refinement.specs.Flat.{endpoint_index, answer_of, decision_at, after_access, owner_at}
 use Rattle.refinement.specs.Translating.{in_words}
@@ -58,8 +57,9 @@ module _ (f : Found) (o : Option Mapping) (gave : f ≡ found_of o) where
   answers-unmapped a e = rw (found_nothing o (sym e ∙ gave))
 
 -- a record that lets an access through starts no later than the address
-pub starts-before : (key : ℕ) (a : Access) (l : List Mapping) (r : Mapping) → looked_up key a l ≡ some r → r.start ≤ a.address
-starts-before key a l r e = (permits-covers key a r (looked-permits key a l r e)).from
+pub starts-before : (key : ℕ) (a : Access) (l : List Mapping) (r : Mapping) → find_mapping key a l ≡ some r → r.start ≤ a.address
+unfolding find_mapping
+starts-before key a l r e = (permits-covers key a r (found-passes (permits key a) l r e)).from
 
 module _ (i n : ℕ) (owners attached domains : List ℕ) (l : List Mapping) (a : Access) where
   -- the answer of an access by the endpoint at place i
@@ -79,7 +79,7 @@ module _ (i n : ℕ) (owners attached domains : List ℕ) (l : List Mapping) (a 
       unfolding decision_at in_words
       answers-unattached f = rw (le-leb n max_endpoints few, lt-ltb i n h, ne_eqb (get_or attached i 0) 1 f)
 
-      pub answers-mapped : get_or attached i 0 ≡ 1 → (key : ℕ) (x : Answer) → key ≡ get_or owners i 0 * domain_span + get_or domains i 0 → x ≡ in_words (answer_of a (looked_up key a l)) → x ≡ answer_at
+      pub answers-mapped : get_or attached i 0 ≡ 1 → (key : ℕ) (x : Answer) → key ≡ get_or owners i 0 * domain_span + get_or domains i 0 → x ≡ in_words (answer_of a (find_mapping key a l)) → x ≡ answer_at
       unfolding decision_at
       answers-mapped f key x q r = rw (le-leb n max_endpoints few, lt-ltb i n h, eq-eqb (get_or attached i 0) 1 f, sym q) r
 

@@ -35,11 +35,8 @@ use Rattle.rules.proofs.Accesses.{permits-covers}
 use Rattle.rules.proofs.Reading.{sound-whole}
 use Rattle.rules.proofs.Refusals.{unsound}
 use Rattle.rules.proofs.Shape.{small_count}
-use Rattle.table_lookup.specs.Lookup.{looked_up}
-use Rattle.table_lookup.proofs.Halved.{looked-up}
 use Rattle.refinement.specs.Flat.{device, owner_at, endpoint_index, live_records, answer_of, decision_at, decision, after_access}
 use Rattle.refinement.specs.Translating.{in_words, translate, access_whole}
-use Rattle.refinement.proofs.InOrder.{sound-in-order}
 use Rattle.refinement.proofs.Answered.{access-step}
 
 module _ (d : Device) (h : sound d ≡ true) (k : Lengths d.state) (wide : (i : ℕ) → window_last d.state.settings i ≤ 18446744073709551615) where
@@ -60,15 +57,15 @@ module _ (d : Device) (h : sound d ≡ true) (k : Lengths d.state) (wide : (i : 
       all-guests (config_of d.state).settings.guests (λ n. lands) (read d).records whole.guests
       (λ n l. unfold part in all-imp (record_good (own (config_of d.state) (guest n)) (part (config_of d.state) (guest n) (read d)).attachments) lands (records_of (guest n) (read d).records) (λ r o. form-lands n r (record-form (own (config_of d.state) (guest n)) (part (config_of d.state) (guest n) (read d)).attachments r o)) (whole.parts (guest n) l).records)
 
-  lands-fit : (x : Access) (key : ℕ) (r : Mapping) → looked_up key x (live_records d) ≡ some r → x.address - r.start + r.phys ≤ 18446744073709551615
+  lands-fit : (x : Access) (key : ℕ) (r : Mapping) → find_mapping key x (live_records d) ≡ some r → x.address - r.start + r.phys ≤ 18446744073709551615
   lands-fit x key r e =
-      let q = found (permits key x) lands (live_records d) r (unfold find_mapping in sym (looked-up key x (live_records d) (sound-in-order d h)) ∙ e) (unfold read in all-land) in
+      let q = found (permits key x) lands (live_records d) r (unfold find_mapping in e) (unfold read in all-land) in
       let v = permits-covers key x r q.0 in
       omega (arith, v.from, v.to, leb-true (r.phys + r.end - r.start) 18446744073709551615 q.1)
 
   pub answer-decides : (x : Access) → translate d x ≡ decision d x
   unfolding decision_at in_words answer_of
-  answer-decides x = rw (le-leb d.state.listed max_endpoints (small_count d h k)) (go (ltb place d.state.listed) (eqb (get_or d.state.attached place 0) 1) (looked_up key x (live_records d)) refl)
+  answer-decides x = rw (le-leb d.state.listed max_endpoints (small_count d h k)) (go (ltb place d.state.listed) (eqb (get_or d.state.attached place 0) 1) (find_mapping key x (live_records d)) refl)
     where
       place : ℕ
       place = endpoint_index d.state x.endpoint
@@ -76,7 +73,7 @@ module _ (d : Device) (h : sound d ≡ true) (k : Lengths d.state) (wide : (i : 
       key : ℕ
       key = key_of (owner_at d.state place) (record { 0 = get_or d.state.domains place 0 })
 
-      go : (b c : Bool) (o : Option Mapping) → looked_up key x (live_records d) ≡ o
+      go : (b c : Bool) (o : Option Mapping) → find_mapping key x (live_records d) ≡ o
           → in_words (cond (not b) (Refused UnknownEndpoint) (cond (not c) (Blocked Unattached) (answer_of x o))) ≡ cond (not b) (Refused UnknownEndpoint) (cond (not c) (Blocked Unattached) (answer_of x o))
       go false c o e = refl
       go true false o e = refl

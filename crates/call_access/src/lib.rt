@@ -1,4 +1,6 @@
 // Accesses.
+#![tactic(auto)]
+
 mod blocked;
 mod checked;
 mod making;

@@ -3,15 +3,15 @@ ghost use Rattle.std.specs.Prelude.{◌≡◌, ◌+◌, take};
 ghost use Rattle.rules.specs.declared.Answer.TheVariants.{Through};
 ghost use Rattle.rules.specs.declared.State.{State};
 ghost use Rattle.rules.specs.Table.{records};
+ghost use Rattle.rules.specs.Access.{find_mapping};
 ghost use Rattle.state_fields.specs.Fields.{with_endpoints};
-ghost use Rattle.table_lookup.specs.Lookup.{looked_up};
 ghost use Rattle.refinement.specs.Flat.{device, answer_of};
 ghost use Rattle.refinement.specs.Translating.{in_words, translate};
 
 use rules::sizes::{MAX_ENDPOINTS, TOP_ADDRESS};
 use rules::{Access, Answer, Cause, Domain, Guest, Refusal};
+use table_lookup::Found;
 use table_record::key_of;
-use table_search::Found;
 
 // The answer of an access that lies so far into a record; a record that leads past the last address is none of a sound table.
 fn landing(offset: u64, phys: u64) -> Answer
@@ -25,11 +25,9 @@ fn landing(offset: u64, phys: u64) -> Answer
 
 // The answer of an access under a domain's key.
 fn answer_under(t: &[u64], live: usize, key: u64, a: Access) -> Answer
-    ensures { result ≡ in_words (answer_of a (looked_up key a (take live (records t.now)))) }
+    ensures { result ≡ in_words (answer_of a (find_mapping key a (take live (records t.now)))) }
 {
-    let looked = table_lookup::find_mapping(t, live, key, a);
-    let found = looked.found;
-    match found {
+    match table_lookup::find_mapping(t, live, key, a) {
         Found::At(r) => landing(a.address - r.start, r.phys),
         Found::Nothing => Answer::Blocked(Cause::Unmapped),
     }

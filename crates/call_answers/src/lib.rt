@@ -1,4 +1,6 @@
 // Document 01's number for each answer, and the values beside it.
+#![tactic(auto)]
+
 ghost use Rattle.std.specs.Prelude.{◌≡◌};
 ghost use Rattle.rules.specs.Answers as answers;
 

@@ -1,4 +1,6 @@
 // ATTACH and DETACH, on lent arrays of the state and the table's words.
+#![tactic(auto)]
+
 mod attach;
 mod detach;
 mod moving;

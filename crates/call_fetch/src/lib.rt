@@ -1,4 +1,6 @@
 // Fetches.
+#![tactic(auto)]
+
 mod checked;
 mod putting;
 

@@ -1,4 +1,6 @@
 // MAP, on lent arrays of the state and the table's words.
+#![tactic(auto)]
+
 mod reserved;
 
 ghost use Rattle.std.specs.Prelude.{◌≡◌, [], ◌∷◌, ◌<◌};

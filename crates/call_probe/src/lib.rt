@@ -1,4 +1,6 @@
 // PROBE, on lent arrays of the state and a lent buffer.
+#![tactic(auto)]
+
 mod putting;
 
 ghost use Rattle.rules.specs.declared.State.{State};

@@ -1,4 +1,6 @@
 // Requests, refusals in order and then the handler of the type.
+#![tactic(auto)]
+
 mod answering;
 mod checked;
 

@@ -1,4 +1,6 @@
 // Reset of a guest.
+#![tactic(auto)]
+
 mod checked;
 
 ghost use Rattle.std.specs.Prelude.{◌≡◌, []};

@@ -1,4 +1,6 @@
 // Set-up: the state that a configuration starts with.
+#![tactic(auto)]
+
 mod placing;
 
 ghost use Rattle.std.specs.Prelude.{◌≡◌, length};

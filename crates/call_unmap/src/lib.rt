@@ -1,4 +1,6 @@
 // UNMAP, on lent arrays of the state and the table's words.
+#![tactic(auto)]
+
 ghost use Rattle.std.specs.Prelude.{◌≡◌};
 ghost use Rattle.rules.specs.Handlers.{status_of, unmap_chain};
 ghost use Rattle.rules.specs.declared.State.{State};

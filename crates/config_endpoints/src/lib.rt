@@ -1,4 +1,6 @@
 // Whether the lists of a configuration's endpoints and of their owners are good.
+#![tactic(auto)]
+
 ghost use Rattle.std.specs.Prelude.{◌≡◌, true, not, ◌≤◌, ◌<◌, ◌+◌, ltb, eqb, length, get_or, take, drop};
 ghost use Rattle.laws.specs.Lists.{all?, pairwise};
 ghost use Rattle.rules.specs.Configuration.{good_lists};

@@ -1,4 +1,6 @@
 // Whether the reserved regions of a configuration's endpoints are good.
+#![tactic(auto)]
+
 ghost use Rattle.std.specs.Prelude.{◌≡◌, ◌+◌, ◌*◌, ◌≤◌, ◌<◌, length};
 ghost use Rattle.laws.specs.Lists.{every?};
 ghost use Rattle.rules.specs.Sizes.{max_regions, region_words, endpoint_region_words};

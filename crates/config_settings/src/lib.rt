@@ -1,4 +1,6 @@
 // Whether the settings of a configuration are good.
+#![tactic(auto)]
+
 ghost use Rattle.std.specs.Prelude.{◌≡◌, not, ◌≤◌, ◌<◌, leb};
 ghost use Rattle.laws.specs.Lists.{below, sum_below};
 ghost use Rattle.rules.specs.Sizes.{max_guests};

@@ -1,4 +1,6 @@
 // A journal that a program reads piece by piece into a block, and whose lines it writes from a buffer.
+#![tactic(auto)]
+
 ghost use Rattle.std.specs.Prelude.{◌≡◌, ◌+◌, min, length, if◌then◌else◌};
 ghost use Rattle.journal_text.specs.Placing.{line_room, written, written_count};
 ghost use Rattle.journal_line_plain.specs.Plain.{last_line};

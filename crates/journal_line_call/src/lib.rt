@@ -1,5 +1,7 @@
 // The lines of a request and of an access, each put at a place of a lent buffer where that has room for it. The number of
 // bytes put is given back: 0 where there is not the room, and the buffer stays.
+#![tactic(auto)]
+
 ghost use Rattle.std.specs.Prelude.{◌≡◌, ◌-◌, ◌≤◌};
 ghost use Rattle.rules.specs.Sizes.{status_size};
 ghost use Rattle.rules.specs.Requests.{status_in};

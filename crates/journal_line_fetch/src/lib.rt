@@ -1,5 +1,7 @@
 // The lines of a fetch, put at a place of a lent buffer where that has room for them. The number of bytes put is given back:
 // 0 where there is not the room, and the buffer stays.
+#![tactic(auto)]
+
 mod records;
 
 ghost use Rattle.std.specs.Prelude.{◌≡◌, cond};

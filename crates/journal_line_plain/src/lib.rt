@@ -1,5 +1,7 @@
 // The lines of a number, of a bad journal and of the end, each put at a place of a lent buffer where that has room for it. The
 // number of bytes put is given back: 0 where there is not the room, and the buffer stays.
+#![tactic(auto)]
+
 ghost use Rattle.std.specs.Prelude.{◌≡◌};
 ghost use Rattle.journal_line_plain.specs.Plain.{number_line, bad_line, end_line, last_line};
 ghost use Rattle.journal_text.specs.Placing.{line_room, written, written_count};

@@ -1,5 +1,7 @@
 // The lines of a request with properties, put at a place of a lent buffer where that has room for them. The number of bytes put
 // is given back: 0 where there is not the room, and the buffer stays.
+#![tactic(auto)]
+
 ghost use Rattle.std.specs.Prelude.{◌≡◌, ◌≤◌, length, take};
 ghost use Rattle.rules.specs.Sizes.{properties_size};
 ghost use Rattle.journal_line_probe.specs.Lines.{probe_room, probe_lines};

@@ -1,4 +1,6 @@
 // The records of a journal, by their bytes.
+#![tactic(auto)]
+
 ghost use Rattle.std.specs.Prelude.{◌≡◌, ◌<◌, ◌≤◌, length};
 ghost use Rattle.journal_records.specs.Items.{longest_body, body_length, kind_of, size_of, guest_fields, start_fields, endpoint_at, region_fields, item_of};
 ghost use Rattle.journal_records.specs.Items as items;

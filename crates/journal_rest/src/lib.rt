@@ -1,4 +1,6 @@
 // A block of a journal, as a program reads it.
+#![tactic(auto)]
+
 ghost use Rattle.std.specs.Prelude.{◌≡◌};
 ghost use Rattle.journal_rest.specs.Blocks.{kept, kept_count};
 

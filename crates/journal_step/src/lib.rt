@@ -1,4 +1,6 @@
 // One record of a journal: what it does, and the lines that it prints.
+#![tactic(auto)]
+
 mod called;
 
 ghost use Rattle.std.specs.Prelude.{length};

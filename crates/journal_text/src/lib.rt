@@ -1,4 +1,6 @@
 // Numbers as text, and text put into a lent buffer.
+#![tactic(auto)]
+
 mod decimal;
 mod hex;
 mod placing;

@@ -1,4 +1,6 @@
 // What a live record must be like in itself, and how far the records of one domain go on.
+#![tactic(auto)]
+
 mod form;
 mod runs;
 

@@ -44,10 +44,7 @@ use Rattle.rules.proofs.Unchanged.{kept-is, written, still}
 use Rattle.state_log.specs.Changes.{log_fault}
 use Rattle.state_log.specs.Dropped.{drop_faults}
 use Rattle.state_endpoints.specs.Search.{index_of}
-use Rattle.table_lookup.specs.Lookup.{looked_up}
-use Rattle.table_lookup.proofs.Halved.{looked-up}
 use Rattle.refinement.specs.Flat.{device, endpoint_index, is_attached, live_records, answer_of, decision_at, decision, after_access, fetch_count, fetch_bytes, owner_at}
-use Rattle.refinement.proofs.InOrder.{sound-in-order}
 use Rattle.refinement.proofs.Places.{owner_of-at}
 use Rattle.refinement.proofs.Leaving.{attachment-here, flag-here, number-here, of-key-mine}
 use Rattle.refinement.proofs.Requested.{small-domain, fault-written, fetch-written}
@@ -140,7 +137,7 @@ module _ (d : Device) (h : sound d ≡ true) (k : Lengths d.state) where
     unattached l off = rw (l, off)
 
     by-lookup : (dom : Domain) → ltb (endpoint_index d.state x.endpoint) d.state.listed ≡ true → eqb (get_or d.state.attached (endpoint_index d.state x.endpoint) 0) 1 ≡ true → get_or d.state.owners (endpoint_index d.state x.endpoint) 0 ≡ g.0 → get_or d.state.domains (endpoint_index d.state x.endpoint) 0 ≡ dom.0
-        → decision d x ≡ answer_of x (looked_up (key_of g dom) x (live_records d))
+        → decision d x ≡ answer_of x (find_mapping (key_of g dom) x (live_records d))
     unfolding decision_at
     by-lookup dom l on w number = rw (l, on, w, number)
 
@@ -159,7 +156,7 @@ module _ (d : Device) (h : sound d ≡ true) (k : Lengths d.state) where
     decided-by : ltb (endpoint_index d.state x.endpoint) d.state.listed ≡ true → get_or d.state.owners (endpoint_index d.state x.endpoint) 0 ≡ g.0 → (a : Attachment) → attachment_of x.endpoint (own (config_of d.state) g).endpoints (part (config_of d.state) g (read d)).attachments ≡ a → flat (decision d x) ≡ ruled_by a
     decided-by l w none a = ap (λ (y : Answer). flat y) (unattached l (flag_is ∙ ap (λ (y : Attachment). eqb (flag_of y) 1) a)) ∙ flat-unattached w
     decided-by l w (some dom) a =
-        ap (λ (y : Answer). flat y) (by-lookup dom l (flag_is ∙ ap (λ (y : Attachment). eqb (flag_of y) 1) a) w (number_is ∙ ap number_of a) ∙ ap (λ (o : Option Mapping). answer_of x o) (looked-up (key_of g dom) x (live_records d) (sound-in-order d h) ∙ sym (found_here dom a)))
+        ap (λ (y : Answer). flat y) (by-lookup dom l (flag_is ∙ ap (λ (y : Attachment). eqb (flag_of y) 1) a) w (number_is ∙ ap number_of a) ∙ ap (λ (o : Option Mapping). answer_of x o) (sym (found_here dom a)))
         ∙ flat-found dom w
 
     decided-here : ltb (endpoint_index d.state x.endpoint) d.state.listed ≡ true → get_or d.state.owners (endpoint_index d.state x.endpoint) 0 ≡ g.0

@@ -1,4 +1,3 @@
-pub mod InOrder
 pub mod Places
 pub mod Written
 pub mod Reserved

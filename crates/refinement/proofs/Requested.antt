@@ -10,7 +10,7 @@ use lib.ListN.{length, get_or, set, replicate}
 use borrow.Author.Tests.{ltb-true, leb-true, eqb-true, eq-eqb, le-leb, not-true}
 use Rattle.laws.specs.Lists.{all?, any?, keep, pairwise, tab, pad, weave_by}
 use Rattle.laws.proofs.Tests.{both_left, both_right, true-false, same_test, opened, Clear}
-use Rattle.laws.proofs.Filters.{keep_same}
+use Rattle.laws.proofs.Filters.{all-imp, keep_same}
 use Rattle.laws.proofs.Tables.{length-tab, get_d-tab}
 use Rattle.rules.specs.declared.Guest.{Guest}
 use Rattle.rules.specs.declared.Endpoint.{Endpoint}
@@ -29,11 +29,11 @@ use Rattle.rules.specs.Guests.{own, part, replace, records_of, with_records_of, 
 use Rattle.rules.specs.Handlers.{outside, is_in, domain_exists, listed, attachment_of, of_key, regions_of, regions_in, on_region, without, leave, enter, move_from, attached, attach_steps, handle_attach, detach_steps, handle_detach, form_steps, map_steps, handle_map, inside, straddles, unmap_steps, handle_unmap, probe_steps, properties_of, probed, status_of, attach_chain, detach_chain, map_chain, unmap_chain}
 use Rattle.rules.specs.Requests.{OK, NOENT}
 use Rattle.rules.specs.Access.{after_reset, logged, fetched_from}
-use Rattle.rules.specs.Sound.{guest, in_range}
+use Rattle.rules.specs.Sound.{guest, in_range, record_good}
 use Rattle.rules.specs.Device.{owner_of, is}
-use Rattle.rules.proofs.Records.{mine}
+use Rattle.rules.proofs.Records.{mine, wide, all-guests}
 use Rattle.rules.proofs.Groups.{Good, good-facts, Facts}
-use Rattle.rules.proofs.Parts.{in-range}
+use Rattle.rules.proofs.Parts.{in-range, record-wide}
 use Rattle.rules.proofs.Worlds.{Whole, same-guest}
 use Rattle.rules.proofs.Chains.{outside_high, attaches, detaches, maps, unmap-there}
 use Rattle.rules.proofs.Words.{records-table_of}
@@ -47,6 +47,7 @@ use Rattle.state_log.specs.Dropped.{drop_faults}
 use Rattle.state_reset.specs.Changes.{guest_cleared}
 use Rattle.wire_properties.specs.Properties.{properties_put}
 use Rattle.state_regions.specs.Held.{held_regions}
+use Rattle.table_search.proofs.Ordered.{InOrder}
 use Rattle.table_reserved.specs.Reserved.{regions_met}
 use Rattle.table_reserved.proofs.Swapped.{regions-met}
 use Rattle.state_endpoints.specs.Search.{index_of}
@@ -54,7 +55,6 @@ use Rattle.refinement.specs.Flat.{device, with_status, endpoint_index, owned_at,
 use Rattle.refinement.specs.Flat as flat
 use Rattle.rules.proofs.PutBack.{with-kept, with-inserted, any_of}
 use Rattle.rules.proofs.Unchanged.{attachments-same, records-same, replace-same}
-use Rattle.refinement.proofs.InOrder.{whole-in-order}
 use Rattle.refinement.proofs.Places.{owner_of-at, listed-owned}
 use Rattle.refinement.proofs.Written.{with_recs, with_logs, exists-written, removed-written, inserted-written}
 use Rattle.refinement.proofs.Reserved.{regions-of-at, held-here, on-regions, properties-put}
@@ -155,6 +155,18 @@ module _ (c : Config) (k : kept c ≡ c) (w : World) (h : Whole c w) (g : Guest)
       listed_here : index_of e.0 c.endpoints < length c.endpoints
       listed_here = place-listed c k w h g m e owner
 
+  -- the records of all guests are in order
+  in_order : InOrder w.records
+  in_order =
+      record {
+        order = h.order;
+        disjoint = h.disjoint;
+        filled = all-guests c.settings.guests (λ k. wide) w.records h.guests of_guest;
+      }
+    where
+      of_guest : (n : ℕ) → n < c.settings.guests → all? wide (records_of (guest n) w.records) ≡ true
+      of_guest n l = unfold part in all-imp (record_good (own c (guest n)) (part c (guest n) w).attachments) wide (records_of (guest n) w.records) (record-wide (own c (guest n)) (part c (guest n) w).attachments) (h.parts (guest n) l).records
+
   -- the records of the domain on the regions of an endpoint of the guest's
   barred-is : (dom : Domain) (e : Endpoint) → listed e (own c g).endpoints ≡ true → dom.0 < domain_span
       → barred_from (write c w) g dom (endpoint_index (write c w).state e) ≡ any? (λ r. of_key (key_of (own c g).guest dom) r && on_region (regions_of e (own c g).endpoints (own c g).regions) r) (part c g w).records
@@ -162,7 +174,7 @@ module _ (c : Config) (k : kept c ≡ c) (w : World) (h : Whole c w) (g : Guest)
       ap (λ (i : ℕ). barred_from (write c w) g dom i) (place_is e)
       ∙ ap (λ (x : List Mapping). regions_met (key_of g dom) x (held_regions (write c w).state.regions (index_of e.0 c.endpoints))) live-is
       ∙ ap (λ (qs : List Region). regions_met (key_of g dom) w.records qs) (regions-here e (owner_here e l))
-      ∙ regions-met (key_of g dom) w.records (regions_of e (own c g).endpoints (own c g).regions) (whole-in-order c w h)
+      ∙ regions-met (key_of g dom) w.records (regions_of e (own c g).endpoints (own c g).regions) in_order
       ∙ sym (mine-alone (regions_of e (own c g).endpoints (own c g).regions))
     where
       mine-alone : (qs : List Region) → any? (λ r. of_key (key_of (own c g).guest dom) r && on_region qs r) (part c g w).records ≡ any? (λ r. of_key (key_of g dom) r && on_region qs r) w.records

@@ -20,10 +20,9 @@ use Rattle.rules.specs.State.{Device, config_of, fault_at, domain_at}
 use Rattle.rules.specs.Guests.{own, records_of}
 use Rattle.rules.specs.Requests.{OK, DEVERR, NOENT}
 use Rattle.rules.specs.Handlers.{status_of, outside, attach_chain, detach_chain, form_steps, map_chain, straddles, unmap_chain}
-use Rattle.rules.specs.Access.{fault_of, bytes_of}
+use Rattle.rules.specs.Access.{find_mapping, fault_of, bytes_of}
 use Rattle.wire_properties.specs.Properties.{properties_put}
 use Rattle.state_regions.specs.Held.{held_regions}
-use Rattle.table_lookup.specs.Lookup.{looked_up}
 use Rattle.table_reserved.specs.Reserved.{regions_met}
 use Rattle.table_insert.specs.Inserted.{inserted_words}
 use Rattle.table_remove.specs.Removed.{kept_of, removed_words}
@@ -194,7 +193,7 @@ unfoldable pub decision_at : ℕ → ℕ → List ℕ → List ℕ → List ℕ 
 decision_at i n owners attached domains live a =
     cond (not (ltb i n)) (Refused UnknownEndpoint)
     (cond (not (eqb (get_or attached i 0) 1)) (Blocked Unattached)
-    (answer_of a (looked_up (key_of (record { 0 = get_or owners i 0 }) (record { 0 = get_or domains i 0 })) a live)))
+    (answer_of a (find_mapping (key_of (record { 0 = get_or owners i 0 }) (record { 0 = get_or domains i 0 })) a live)))
 
 abbrev pub decision : Device → Access → Answer
 decision d a = decision_at (endpoint_index d.state a.endpoint) d.state.listed d.state.owners d.state.attached d.state.domains (live_records d) a

@@ -3,6 +3,8 @@
 // say. Order of reading: specs/Flat (attachments, records, regions, logs, the handlers of requests); Requesting, Translating,
 // Resetting and Fetching (the calls); Replied and Setting (what an entry gives back). In proofs/ the laws are in Stepped, Answered,
 // Resetting and Fetching; the other files serve them. Here are the types of what is given back, and no function.
+#![tactic(auto)]
+
 use rules::{Answer, State};
 
 // What a call gives back: its answer, and the next state.

@@ -1,4 +1,6 @@
 // Replays a journal from standard input and prints its lines: reads, lets `crates/journal_blocks` advance, writes.
+#![tactic(auto)]
+
 ghost use Rattle.io.specs.Counts.{IsPrefixLen};
 
 use journal_blocks::Progress;

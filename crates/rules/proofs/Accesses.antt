@@ -71,7 +71,7 @@ permits-overlap key x r s h i =
     rw (eq-eqb r.key s.key (a.key ∙ sym b.key), le-leb r.start s.end (omega (arith, a.from, b.to)), le-leb s.start r.end (omega (arith, b.from, a.to)))
 
 -- so among records none of which overlap, the one that permits it is found
-pub only_one : (key : ℕ) (x : Access) (z : Mapping) (l : List Mapping) (i : ℕ) → pairwise apart l ≡ true → i < length l → permits key x (get_or l i z) ≡ true → find (permits key x) l ≡ some (get_or l i z)
+only_one : (key : ℕ) (x : Access) (z : Mapping) (l : List Mapping) (i : ℕ) → pairwise apart l ≡ true → i < length l → permits key x (get_or l i z) ≡ true → find (permits key x) l ≡ some (get_or l i z)
 only_one key x z [] i a h p = absurd (omega arith)
 only_one key x z (r ∷ l) i a h p = go i h p (permits key x r) refl (λ j m q. only_one key x z l j (both_right (all? (apart r) l) _ a) m q)
   where

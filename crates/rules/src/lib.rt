@@ -1,4 +1,6 @@
 // The types that the definitions and the code share, and the numbers that the code names. There is no function here.
+#![tactic(auto)]
+
 pub mod requests;
 pub mod sizes;
 

@@ -28,7 +28,7 @@ use Rattle.rules.proofs.Records.{wide}
 use Rattle.rules.proofs.Groups.{Good, good-facts, Framed, frame-facts, frame-tests, Placed, place-tests, Logged, log-tests, Recorded, reserved-facts, reserved-tests, sound-facts, sound-tests}
 use Rattle.rules.proofs.Parts.{passes_none, form-wide}
 use Rattle.table_record.specs.Records.{no_mapping}
-use Rattle.table_search.specs.Order.{InOrder}
+use Rattle.table_search.proofs.Ordered.{InOrder}
 use Rattle.map_steps.specs.Forms.{limits, form_good}
 use Rattle.sound_records.specs.Scan.{own_good, domain_good, scan, room_tests}
 use Rattle.sound_records.proofs.Room.{room-tests}
@@ -222,7 +222,7 @@ module _ (d : Device) (f : Framed d) where
       recorded z (from-scan form domain formed keyed-here live (both_left (scan form domain true no_mapping live) _ h)) (both_right (scan form domain true no_mapping live) _ h)
 
   ordered : zero_from (record_words * d.state.live) d.table ≡ true → records-pass ≡ true → InOrder live
-  unfolding read wide
+  unfolding read
   ordered z h =
       let r = records-hold z h in
       record { order = r.order; disjoint = r.disjoint; filled = all-imp form wide live formed (scanned r).forms }

@@ -1,4 +1,6 @@
 // The test that a state and a table are sound, and the test before a guest's job.
+#![tactic(auto)]
+
 mod checking;
 
 ghost use Rattle.std.specs.Prelude.{◌≡◌, ℕ, ◌*◌, ◌≤◌, eqb, length, take};

@@ -1,4 +1,6 @@
 // The test of the guests' fault logs.
+#![tactic(auto)]
+
 mod empty;
 mod held;
 mod named;

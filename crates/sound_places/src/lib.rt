@@ -1,4 +1,6 @@
 // What is tested guest by guest, or endpoint by endpoint: the places in use and those that are not, and shares.
+#![tactic(auto)]
+
 mod endpoints;
 mod guests;
 mod shares;

@@ -1,5 +1,7 @@
 // The test that the live records are in order and apart, that each would pass steps 1 to 6 of MAP, and that no guest holds
 // more than its share: one pass, domain by domain.
+#![tactic(auto)]
+
 mod domains;
 
 ghost use Rattle.std.specs.Prelude.{◌≡◌, true, ◌&&◌, ◌≤◌, ◌<◌, length, take};

@@ -28,7 +28,7 @@ use Rattle.rules.proofs.Regions.{regions-agree, region-count}
 use Rattle.state_regions.specs.Held.{held_regions}
 use Rattle.state_regions.proofs.Regions.{held-is}
 use Rattle.state_regions.proofs.InDomain.{found, regions-at, regions-from}
-use Rattle.table_search.specs.Order.{InOrder}
+use Rattle.table_search.proofs.Ordered.{InOrder}
 use Rattle.table_reserved.specs.Reserved.{regions_met}
 use Rattle.table_reserved.proofs.Swapped.{regions-met}
 use Rattle.sound_regions.specs.Clear.{key_at, endpoint_clear, regions_good}

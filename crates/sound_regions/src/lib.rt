@@ -1,4 +1,6 @@
 // The test that unused region places are zero and that no record overlaps a region of an endpoint in its domain.
+#![tactic(auto)]
+
 mod clear;
 mod unused;
 

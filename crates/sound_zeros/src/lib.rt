@@ -1,4 +1,6 @@
 // The test that words are zero from a place on.
+#![tactic(auto)]
+
 ghost use Rattle.std.specs.Prelude.{◌≡◌};
 ghost use Rattle.rules.specs.Sound.{zero_from};
 

@@ -1,4 +1,6 @@
 // Endpoints and their attachments: what is changed, and what is looked up.
+#![tactic(auto)]
+
 mod search;
 
 ghost use Rattle.std.specs.Prelude.{◌≡◌, ◌&&◌, ltb, eqb, get_or, set};

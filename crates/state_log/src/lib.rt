@@ -1,4 +1,6 @@
 // A fault logged for a guest, and the count of those that it lost.
+#![tactic(auto)]
+
 mod dropping;
 mod shifting;
 

@@ -1,4 +1,6 @@
 // The reserved regions of an endpoint, read off the state's words.
+#![tactic(auto)]
+
 ghost use Rattle.std.specs.Prelude.{◌≡◌, ◌<◌, get_or};
 ghost use Rattle.laws.specs.Lists.{any?};
 ghost use Rattle.rules.specs.Sizes.{max_endpoints, max_regions};

@@ -1,4 +1,6 @@
 // A guest's part of the state cleared: its endpoints and its log.
+#![tactic(auto)]
+
 mod detaching;
 
 ghost use Rattle.std.specs.Prelude.{◌≡◌};

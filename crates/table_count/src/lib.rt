@@ -1,4 +1,6 @@
 // How many mappings a guest holds.
+#![tactic(auto)]
+
 ghost use Rattle.std.specs.Prelude.{◌≡◌, eqb, length, take};
 ghost use Rattle.rules.specs.Table.{records, guest_of};
 ghost use Rattle.rules.specs.Guests.{records_of};

@@ -1,4 +1,6 @@
 // A mapping put into the table at its place.
+#![tactic(auto)]
+
 ghost use Rattle.std.specs.Prelude.{◌≡◌, ◌++◌, ◌+◌, ◌<◌, ◌≤◌, length, take, drop};
 ghost use Rattle.rules.specs.Table.{records, words, before};
 ghost use Rattle.table_record.specs.Records.{spare};

@@ -1,2 +1,2 @@
-pub mod Halved
+pub mod Outcomes
 mod Passing

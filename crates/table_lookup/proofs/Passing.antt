@@ -1,17 +1,17 @@
--- Laws of a record that passes a test.
+-- Laws of a lookup that passes over the first elements of a list: what is still to go.
+use Prim.Native.Nat.{ℕ, ◌+◌, ◌<◌}
 use mathlib.Core.Path.{◌≡◌}
 use mathlib.Core.Bool.{Bool, true, false}
-use Rattle.rules.specs.declared.Mapping.{Mapping}
-use Rattle.table_search.specs.declared.Found.{Found}
-use Rattle.table_search.specs.declared.Found.TheVariants.{At, Nothing}
-use Rattle.table_search.specs.Outcomes.{found_of, option_of}
-use Rattle.table_lookup.specs.Lookup.{passing}
+use mathlib.Core.List.{List}
+use mathlib.Core.Option.{some}
+use lib.ListN.{length, get_or, take, drop}
+use Rattle.laws.specs.Lists.{find}
+use Rattle.table_record.proofs.Laws.{to-go}
 
-module _ (q : Mapping → Bool) (f : Found) (r : Mapping) (e : f ≡ At r) where
-  pub passes : q r ≡ true → At r ≡ found_of (passing q (option_of f))
-  unfolding found_of option_of passing
-  passes h = rw (e, h)
+-- what a test of the element at place i says of what is to go
+module _ {A : Type 0} (q : A → Bool) (z : A) (l : List A) (n i : ℕ) (h : i < length (take n l)) where
+  pub find-yes : q (get_or l i z) ≡ true → find q (drop i (take n l)) ≡ some (get_or l i z)
+  find-yes e = rw (to-go z l n i h, e)
 
-  pub fails : q r ≡ false → Nothing ≡ found_of (passing q (option_of f))
-  unfolding found_of option_of passing
-  fails h = rw (e, h)
+  pub find-no : q (get_or l i z) ≡ false → find q (drop i (take n l)) ≡ find q (drop (i + 1) (take n l))
+  find-no e = rw (to-go z l n i h, e)

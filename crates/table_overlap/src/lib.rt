@@ -1,4 +1,6 @@
 // Which mappings of a domain stand in the way: one that a new mapping overlaps, one that an unmapping would split.
+#![tactic(auto)]
+
 ghost use Rattle.std.specs.Prelude.{◌≡◌, take};
 ghost use Rattle.laws.specs.Lists.{any?};
 ghost use Rattle.rules.specs.Table.{records, overlap};

@@ -1,5 +1,5 @@
 // One record of the table.
-ghost use Rattle.std.specs.Prelude.{◌≡◌, cond, ◌+◌, ◌*◌, ◌<◌, ◌≤◌, leb, length, get_or, take};
+ghost use Rattle.std.specs.Prelude.{◌≡◌, ◌+◌, ◌*◌, ◌<◌, ◌≤◌, length, get_or, take};
 ghost use Rattle.rules.specs.Sizes.{record_words};
 ghost use Rattle.rules.specs.Table.{records};
 ghost use Rattle.table_record.specs.Records.{no_mapping, loaded};
@@ -29,19 +29,6 @@ fn read(t: &[u64], i: usize) -> Mapping
     load(t, RECORD_WORDS * i)
 }
 
-// The record of five zeros.
-fn no_mapping() -> Mapping
-    ensures { result ≡ no_mapping }
-{
-    Mapping {
-        key: 0,
-        start: 0,
-        end: 0,
-        phys: 0,
-        flags: 0,
-    }
-}
-
 // Record i, and five zeros past the last.
 pub fn get(t: &[u64], i: usize) -> Mapping
     ensures { result ≡ get_or (records t.now) i no_mapping }
@@ -49,20 +36,13 @@ pub fn get(t: &[u64], i: usize) -> Mapping
     if i < t.len() / RECORD_WORDS {
         return read(t, i);
     }
-    no_mapping()
-}
-
-// The record in the five words from at on, and five zeros where the table does not have them all.
-pub fn get_at(t: &[u64], at: usize) -> Mapping
-    ensures { result ≡ cond (leb (at + record_words) (length t.now)) (loaded t.now at) no_mapping }
-{
-    if t.len() < RECORD_WORDS {
-        return no_mapping();
+    Mapping {
+        key: 0,
+        start: 0,
+        end: 0,
+        phys: 0,
+        flags: 0,
     }
-    if t.len() - RECORD_WORDS < at {
-        return no_mapping();
-    }
-    load(t, at)
 }
 
 // The smaller of live and the number of whole records.

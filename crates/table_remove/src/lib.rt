@@ -1,4 +1,6 @@
 // Mappings taken out of the table, and words made zero.
+#![tactic(auto)]
+
 ghost use Rattle.std.specs.Prelude.{◌≡◌, ◌*◌, ◌≤◌, length, take, drop, replicate};
 ghost use Rattle.rules.specs.Sizes.{record_words};
 ghost use Rattle.rules.specs.Table.{records, words};

@@ -18,8 +18,7 @@ use Rattle.rules.specs.Table.{overlap}
 use Rattle.rules.specs.Handlers.{of_key, on_region}
 use Rattle.table_record.specs.Records.{no_mapping}
 use Rattle.table_search.specs.Halving.{last_up_to}
-use Rattle.table_search.specs.Order.{InOrder}
-use Rattle.table_search.proofs.Ordered.{reaches, last_within}
+use Rattle.table_search.proofs.Ordered.{InOrder, reaches, last_within}
 use Rattle.table_reserved.specs.Reserved.{record_over, region_met, regions_met}
 
 any-or : {A : Type 0} (p q : A → Bool) (l : List A) → any? (λ x. p x || q x) l ≡ (any? p l || any? q l)

@@ -1,4 +1,6 @@
 // Records of a domain on the reserved regions of an endpoint.
+#![tactic(auto)]
+
 ghost use Rattle.std.specs.Prelude.{◌≡◌, take};
 ghost use Rattle.rules.specs.Table.{records};
 ghost use Rattle.state_regions.specs.Held.{held_regions};
@@ -6,20 +8,19 @@ ghost use Rattle.table_reserved.specs.Reserved.{region_met, regions_met};
 
 use rules::Region;
 use state_regions::{count_at, region_at};
-use table_record::bounded;
-use table_search::{Found, last_up_to};
+use table_record::{bounded, get};
+use table_search::last_up_to;
 
 // Whether one of the first live records, which are in order, is of the key's domain and has an address in common with the region: of
 // those that start at or before its last address the last one ends last.
 fn region_met(t: &[u64], live: usize, key: u64, q: Region) -> bool
     ensures { result ≡ region_met key (take live (records t.now)) q }
 {
-    let last = last_up_to(t, live, key, q.end);
-    let found = last.found;
-    match found {
-        Found::At(r) => (key == r.key) & ((q.start <= r.end) & (r.start <= q.end)),
-        Found::Nothing => false,
+    if bounded(t, live) == 0 {
+        return false;
     }
+    let r = get(t, last_up_to(t, live, key, q.end));
+    (key == r.key) & ((q.start <= r.end) & (r.start <= q.end))
 }
 
 // Whether one of the first live records, which are in order, is of the key's domain and has an address in common with a region of the

@@ -8,15 +8,21 @@ use native.Mathlib.Omega.{arith}
 use lib.Dec.{leb, ltb, eqb}
 use lib.ListN.{length, get_or}
 use borrow.Author.Tests.{ltb-true, ltb-false, lt-ltb, leb-true, leb-false, le-leb, eqb-true, eq-eqb}
+use Rattle.laws.specs.Lists.{all?, pairwise}
 use Rattle.laws.proofs.Tests.{both, both_left, both_right, true-false, or_cases, or_left, or_right}
 use Rattle.laws.proofs.Tables.{all-at, pairs-at}
 use Rattle.rules.specs.declared.Mapping.{Mapping}
 use Rattle.rules.specs.Table.{before, overlap, apart}
-use Rattle.rules.proofs.Records.{before-cases}
+use Rattle.rules.proofs.Records.{wide, before-cases}
 use Rattle.table_record.specs.Records.{no_mapping}
 use Rattle.table_search.specs.Halving.{up_to, last_up_to}
-use Rattle.table_search.specs.Order.{InOrder}
 use Rattle.table_search.proofs.Halves.{halved-within, Last, last_found}
+
+-- records "ascending by first word, then by virt_start", none of them empty, of which no two of one domain overlap
+pub record InOrder (l : List Mapping) : Type 0 where
+  pub order : pairwise before l ≡ true
+  pub disjoint : pairwise apart l ≡ true
+  pub filled : all? wide l ≡ true
 
 -- the record found is one of the list's, in order or not
 pub last_within : (key address : ℕ) (l : List Mapping) → 0 < length l → last_up_to key address l < length l
@@ -71,11 +77,11 @@ module _ (key address : ℕ) where
 
     -- of two records of one domain the later ends later
     ends : (i j : ℕ) → i < j → j < length l → (at i).key ≡ (at j).key → (at i).end ≤ (at j).end
-    unfolding overlap
+    unfolding wide overlap
     ends i j h k e = go (leb (at i).start (at j).end) refl (leb (at j).start (at i).end) refl apart-here
       where
         filled : (at j).start < (at j).end
-        filled = ltb-true _ _ (all-at (λ r. ltb r.start r.end) l j no_mapping o.filled k)
+        filled = ltb-true _ _ (all-at wide l j no_mapping o.filled k)
 
         starts : ((at i).key < (at j).key) ⊎ (((at i).key ≡ (at j).key) × ((at i).start < (at j).start)) → (at i).start < (at j).start
         starts (inl a) = absurd (omega arith)

@@ -1,6 +1,5 @@
 -- The search by halving in the order "ascending by first word, then by virt_start".
 use Rattle.std.specs.Prelude.{ℕ, zero, suc, ◌+◌, ◌-◌, ◌/◌, Bool, cond, ◌&&◌, ◌||◌, List, leb, ltb, eqb, length, get_or}
-use Rattle.std.proofs.Math.Option.{Option, some, none}
 use Rattle.rules.specs.declared.Mapping.{Mapping}
 use Rattle.table_record.specs.Records.{no_mapping}
 
@@ -8,30 +7,13 @@ use Rattle.table_record.specs.Records.{no_mapping}
 abbrev pub up_to : ℕ → ℕ → Mapping → Bool
 up_to key address r = ltb r.key key || (eqb r.key key && leb r.start address)
 
--- half of n places
-abbrev pub half : ℕ → ℕ
-half n = n / 2
-
 -- of n places from a on, one found by k halvings at most: each keeps the upper half if its first place passes the test, else the
 -- lower. Where the places that pass come first, it is the last of them.
 unfoldable pub halved : ℕ → (ℕ → Bool) → ℕ → ℕ → ℕ
 halved zero q a n = a
-halved (suc k) q a n = cond (ltb n 2) a (halved k q (cond (q (a + half n)) (a + half n) a) (n - half n))
-
--- how many halvings, of k at most, leave one of n places
-unfoldable pub halvings : ℕ → ℕ → ℕ
-halvings zero n = 0
-halvings (suc k) n = cond (ltb n 2) 0 (suc (halvings k (n - half n)))
+halved (suc k) q a n = cond (ltb n 2) a (halved k q (cond (q (a + n / 2)) (a + n / 2) a) (n - n / 2))
 
 -- the place of the last of the records that does not stand after an address of the key's domain, where they are in order; 0 where
 -- there is none
 unfoldable pub last_up_to : ℕ → ℕ → List Mapping → ℕ
 last_up_to key address l = halved (length l) (λ i. up_to key address (get_or l i no_mapping)) 0 (length l)
-
--- the record there; none where there are no records
-unfoldable pub last_record : ℕ → ℕ → List Mapping → Option Mapping
-last_record key address l = cond (ltb 0 (length l)) (some (get_or l (last_up_to key address l) no_mapping)) none
-
--- how many of n records are read for it: one for each halving, and the one that is found
-unfoldable pub search_reads : ℕ → ℕ
-search_reads n = cond (ltb 0 n) (suc (halvings n n)) 0

@@ -1,3 +1,1 @@
 pub mod Halving
-pub mod Order
-pub mod Outcomes

@@ -1,57 +1,40 @@
 // The search in the table's order, by halving.
-mod halving;
+#![tactic(auto)]
 
-ghost use Rattle.std.specs.Prelude.{◌≡◌, ◌^◌, ◌≤◌, eqb, length, take};
+ghost use Rattle.std.specs.Prelude.{◌≡◌, cond, ◌&&◌, ◌||◌, leb, ltb, eqb, take};
 ghost use Rattle.rules.specs.Table.{records};
-ghost use Rattle.table_search.specs.Halving.{last_record, search_reads};
-ghost use Rattle.table_search.specs.Outcomes.{found_of};
+ghost use Rattle.table_search.specs.Halving.{last_up_to};
 
-use halving::last_place;
-use rules::Mapping;
 use rules::sizes::RECORD_WORDS;
-use table_record::get_at;
+use table_record::bounded;
 
-// A record, or none.
-#[derive(Drop)]
-pub enum Found {
-    // The record that was looked for.
-    At(Mapping),
-    // There is none.
-    Nothing,
-}
-
-// What a search gives, and how many records it has read.
-#[derive(Drop)]
-pub struct Searched {
-    pub found: Found,
-    pub reads: usize,
-}
-
-// Whether there is no record to search.
-fn is_empty(t: &[u64], live: usize) -> bool
-    ensures { result ≡ eqb (length (take live (records t.now))) 0 }
+// Whether a record with this first word and virt_start does not stand after an address of the key's domain.
+fn is_up_to(first: u64, start: u64, key: u64, address: u64) -> bool
+    ensures { result ≡ (ltb first key || (eqb first key && leb start address)) }
 {
-    (live == 0) | (t.len() < RECORD_WORDS)
+    (first < key) | ((first == key) & (start <= address))
 }
 
-// The last of the first live records that does not stand after an address of the key's domain, where the records are in order; the
-// first where all do. Of up to 2^11 records it reads at most 12.
-pub fn last_up_to(t: &[u64], live: usize, key: u64, address: u64) -> Searched
-    ensures found_value { result.found ≡ found_of (last_record key address (take live (records t.now))) }
-    ensures reads_value { result.reads ≡ search_reads (length (take live (records t.now))) }
-    ensures reads_bound { live ≤ 2 ^ 11 → result.reads ≤ 12 }
+// One of two numbers: a function of its own, so that the search is compiled without a jump.
+fn pick(b: bool, x: usize, y: usize) -> usize
+    ensures { result ≡ cond b x y }
 {
-    if is_empty(t, live) {
-        return Searched {
-            found: Found::Nothing,
-            reads: 0,
-        };
+    if b { x } else { y }
+}
+
+// The place of the last of the first live records that does not stand after an address of the key's domain, where the records are
+// in order; 0 where there is none. It reads the two words of a record that order it, and no more.
+pub fn last_up_to(t: &[u64], live: usize, key: u64, address: u64) -> usize
+    ensures { result ≡ last_up_to key address (take live (records t.now)) }
+{
+    let mut a = 0;
+    let mut n = bounded(t, live);
+    while n > 1 {
+        let half = n / 2;
+        let middle = a + half;
+        let at = RECORD_WORDS * middle;
+        a = pick(is_up_to(t[at], t[at + 1], key, address), middle, a);
+        n = n - half;
     }
-    let place = last_place(t, live, key, address);
-    let r = get_at(t, place.word);
-    let reads = place.reads + 1;
-    Searched {
-        found: Found::At(r),
-        reads,
-    }
+    a
 }

@@ -1,4 +1,6 @@
 // The bytes of a fault record.
+#![tactic(auto)]
+
 ghost use Rattle.std.specs.Prelude.{◌≡◌, cond, ◌++◌, leb, length, drop};
 ghost use Rattle.rules.specs.Sizes.{fault_size};
 ghost use Rattle.rules.specs.Access.{fault_bytes};

@@ -1,4 +1,6 @@
 // The properties that PROBE writes.
+#![tactic(auto)]
+
 ghost use Rattle.std.specs.Prelude.{◌≡◌, cond, eqb, length};
 ghost use Rattle.rules.specs.Sizes.{property_size};
 ghost use Rattle.wire_properties.specs.Properties.{property_put};

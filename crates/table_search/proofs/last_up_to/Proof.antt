@@ -1,55 +1,87 @@
--- `table_search::last_up_to` meets its contract. Assumes nothing.
+-- The place that halving finds is looked for among the n places from a on.
 use native.Mathlib.Omega.{arith}
 use borrow.Author.Rules.{rules}
-use Prim.Native.Nat.{◌+◌, ◌*◌, ◌<◌, ◌≤◌}
+use Prim.Native.Nat.{ℕ, ◌+◌, ◌-◌, ◌*◌, ◌/◌, ◌≤◌, ◌<◌}
 use mathlib.Core.Path.{◌≡◌, sym, ap, ◌∙◌}
+use mathlib.Core.Bool.{Bool, true, false, cond}
+use mathlib.Core.List.{List}
 use lib.ListN.{length, get_or, take, length-take}
 use lib.Seq.{get_or-take}
-use borrow.Author.Tests.{le-leb, eqb-true, eqb-false}
+use Rattle.rules.specs.declared.Mapping.{Mapping}
 use Rattle.rules.specs.Sizes.{record_words}
 use Rattle.rules.specs.Table.{records}
-use Rattle.rules.proofs.Words.{length-records}
 use Rattle.table_record.specs.Records.{no_mapping}
 use Rattle.table_record.proofs.Words.{loaded-record}
-use Rattle.table_search.specs.declared.Found.TheVariants.{At}
-use Rattle.table_search.specs.Halving.{last_up_to, search_reads}
-use Rattle.table_search.specs.Outcomes.{found_of}
-use Rattle.table_search.proofs.Halves.{halvings-few}
-use Rattle.table_search.proofs.Ordered.{last_within}
-use Rattle.table_search.proofs.Outcomes.{last_some, last_none, reads-some, reads_none, reads-bits}
+use Rattle.table_search.specs.Halving.{up_to, halved, last_up_to}
+use Rattle.table_search.proofs.Halves.{halved-next, halved-last}
 use Rattle.table_search.proofs.last_up_to.Statement.{statement}
 use Rattle.table_search.proofs.last_up_to.Tie as tie
 
-returns : tie.Need-returns
-unfolding found_of
-returns c =
-    let a = c.before.before.before.args in
-    let l = take a.live (records a.t.now) in
-    let empty : length l ≤ 0 = omega (arith, eqb-true (length l) 0 (sym c.before.is-empty.ensures ∙ c.if1.true)) in
-    (ap found_of (sym (last_none a.key a.address l empty)), (sym (reads_none (length l) empty), λ h. omega arith))
+-- the test of a place
+abbrev passes : ℕ → ℕ → List Mapping → ℕ → Bool
+passes key address l i = up_to key address (get_or l i no_mapping)
 
-add_reads : tie.Need-overflow-add-reads
-add_reads c =
-    let p = c.before.before in
-    let a = p.before.before.before.before.args in
-    let m = length (take a.live (records a.t.now)) in
-    omega (arith, p.last-place.ensures.1.0, halvings-few m m, length-take a.live (records a.t.now), length-records a.t.now)
+abbrev invariant-loop : tie.invariant-loop
+invariant-loop t live key address a₀ n₀ a n =
+    (a + n ≤ length (take live (records t)))
+    × (last_up_to key address (take live (records t)) ≡ halved n (passes key address (take live (records t))) a n)
 
-returns-2 : tie.Need-returns-2
-unfolding found_of
-returns-2 c =
-    let p = c.before.before in
-    let a = p.before.before.before.before.args in
+abbrev decreases-loop : tie.decreases-loop
+decreases-loop t live key address a₀ n₀ a n = n
+
+loop-holds : tie.Need-loop-init invariant-loop decreases-loop
+unfolding last_up_to
+loop-holds c = (omega (arith, c.bounded.ensures.0), rw c.bounded.ensures.0)
+
+-- one of two places, neither of which is past the last
+module _ (a n m : ℕ) (h : a + n ≤ m) where
+  pub picked-within : (b : Bool) → cond b (a + n / 2) a + (n - n / 2) ≤ m
+  picked-within true = omega arith
+  picked-within false = omega arith
+
+-- the words of a record of those that are left
+inside : (c : tie.In-loop invariant-loop decreases-loop) → record_words * (c.before.loop.a + c.before.loop.n / 2) + 1 < length c.before.before.before.before.args.t.now
+inside c = let b = c.before.before.bounded.ensures in omega (arith, b.0, b.2, c.before.loop.invariant.0)
+
+loop-again : tie.Need-loop-preserved invariant-loop decreases-loop
+loop-again c =
+    let u = c.before in
+    let s = u.before.before.before.before in
+    let a = s.before.before.before.args in
     let l = take a.live (records a.t.now) in
-    let place = last_up_to a.key a.address l in
-    let filled : 0 < length l = omega (arith, eqb-false (length l) 0 (sym p.before.before.is-empty.ensures ∙ p.before.if1.false)) in
-    let within : place < length l = last_within a.key a.address l filled in
-    let held : record_words * place + record_words ≤ length a.t.now = omega (arith, within, length-take a.live (records a.t.now), length-records a.t.now) in
-    let read : c.before.get_at.result ≡ get_or l place no_mapping = c.before.get_at.ensures ∙ rw (p.last-place.ensures.0, le-leb (record_words * place + record_words) (length a.t.now) held) (loaded-record a.t.now place (omega (arith, within, length-take a.live (records a.t.now))) ∙ sym (get_or-take a.live (records a.t.now) place no_mapping (omega (arith, within, length-take a.live (records a.t.now))))) in
-    let reads : p.last-place.result.reads + 1 ≡ search_reads (length l) = omega (arith, p.last-place.ensures.1.0, reads-some (length l) filled) in (
-      ap At read ∙ sym (ap found_of (last_some a.key a.address l filled)),
-      (reads, λ h. omega (arith, reads, reads-bits 11 (length l) (omega (arith, h, length-take a.live (records a.t.now))))),
+    let m = s.loop.a + s.loop.n / 2 in
+    let more : 1 < s.loop.n = omega arith in
+    let within : m < length (records a.t.now) = omega (arith, length-take a.live (records a.t.now), s.loop.invariant.0) in
+    let low : m < a.live = omega (arith, length-take a.live (records a.t.now), s.loop.invariant.0) in
+    let test : u.is-up-to.result ≡ passes a.key a.address l m = u.is-up-to.ensures ∙ ap (up_to a.key a.address) (loaded-record a.t.now m within ∙ sym (get_or-take a.live (records a.t.now) m no_mapping low)) in
+    let place : c.pick.result ≡ cond (passes a.key a.address l m) m s.loop.a = c.pick.ensures ∙ rw test in (
+      rw place (picked-within s.loop.a s.loop.n (length l) s.loop.invariant.0 (passes a.key a.address l m)),
+      s.loop.invariant.1 ∙ halved-next (passes a.key a.address l) s.loop.a s.loop.n more ∙ rw place,
     )
 
+returns : tie.Need-returns invariant-loop decreases-loop
+returns c =
+    let s = c.before in
+    sym (s.loop.invariant.1 ∙ halved-last _ s.loop.a s.loop.n (omega arith))
+
 pub last-up-to-spec : {M : Type 1} → statement M
-last-up-to-spec = tie.close (tie.spec (λ c κs. search rules) returns (λ c κs. search rules) (λ c κs. search rules) add_reads returns-2)
+last-up-to-spec =
+    tie.close
+    (tie.spec
+    invariant-loop
+    decreases-loop
+    (λ c κs. search rules)
+    loop-holds
+    (λ c. search rules)
+    (λ c. let h = inside c in search rules)
+    (λ c. let h = inside c in search rules)
+    (λ c. let h = inside c.before in omega arith)
+    (λ c. let h = inside c.before in search rules)
+    (λ c. let h = inside c.before in search rules)
+    (λ c. inside c.before.before)
+    (λ c κs. search rules)
+    (λ c κs. search rules)
+    (λ c. search rules)
+    (λ c. search rules)
+    loop-again
+    returns)
