@@ -9,14 +9,14 @@ use rules::State;
 pub const RECORD_ROOM: usize = FETCH_ROOM;
 
 // Before the start the state holds the configuration named so far, in the places that set-up fills; after it, the device's state.
-#[derive(Drop)]
+#[derive(Clone, Copy)]
 pub struct Session {
     pub started: bool,
     pub state: State,
 }
 
 // What records leave: the session, the bytes read (0 where no record is worked) and printed, and whether the journal is bad there.
-#[derive(Drop)]
+#[derive(Clone, Copy)]
 pub struct StepResult {
     pub session: Session,
     pub read: usize,

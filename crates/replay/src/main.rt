@@ -1,10 +1,16 @@
 // Replays a journal from standard input and prints its lines: reads, lets `crates/journal_blocks` advance, writes.
 #![tactic(auto)]
 
-ghost use Rattle.io.specs.Counts.{IsPrefixLen};
+ghost use Rattle.std.specs.Prelude.{◌≤◌, length};
 
 use journal_blocks::Progress;
 use rules::sizes::TABLE_WORDS;
+use std::io;
+use std::io::{Read, Write};
+use std::rt::{Stdin, Stdout};
+
+// How many bytes of the journal, and of its lines, a round holds.
+const BLOCK_SIZE: usize = 65536;
 
 // Where the loop stands: how far the journal has come, and whether it stops there.
 #[derive(Drop)]
@@ -15,68 +21,70 @@ struct Round {
 
 // A number of bytes, at most all of a buffer's.
 fn within(n: usize, buffer: &[u8]) -> usize
-    ensures { IsPrefixLen result buffer.now }
+    ensures { result ≤ length buffer.now }
 {
     if n < buffer.len() { n } else { buffer.len() }
 }
 
-// Prints a buffer's first n bytes, and says whether they were written.
-fn print(out: &[u8], n: usize) -> bool {
+// Prints a buffer's first n bytes.
+fn print(mut to: Stdout, out: &[u8], n: usize) -> io::Result<()> {
     let k = within(n, out);
-    io::write_all(1, &out[..k])
+    to.write_all(&out[..k])
 }
 
-// Reads behind the bytes held, where more are wanted, and gives what read answers; 0 where none are.
-fn read_more(wants: bool, block: &mut [u8], held: usize) -> isize {
+// Reads behind the bytes held, where more are wanted, and gives how many were read; 0 where none are.
+fn read_more(mut from: Stdin, wants: bool, block: &mut [u8], held: usize) -> io::Result<usize> {
     if !wants {
-        return 0;
+        return Ok(0);
     }
     if held > block.len() {
-        return 0;
+        return Ok(0);
     }
-    libc::read(0, &mut block[held..])
+    from.read(&mut block[held..])
 }
 
-// Advances, and writes what that put. Where lines can't be written, none may follow.
-fn work(p: Progress, table: &mut [u64], block: &mut [u8], out: &mut [u8], got: usize) -> Round {
+// One round: reads where bytes are wanted, works, and writes what that put. Where reading fails, nothing is printed; where lines
+// can't be written, none may follow.
+fn go_on(
+    from: Stdin,
+    to: Stdout,
+    p: Progress,
+    table: &mut [u64],
+    block: &mut [u8],
+    out: &mut [u8],
+) -> io::Result<Round> {
+    let got = read_more(from, p.wants, block, p.held)?;
     let x = journal_blocks::advance(p, table, block, out, got);
-    let written = print(out, x.printed);
+    print(to, out, x.printed)?;
+    let done = x.finished;
     let progress = x.progress;
-    Round {
-        progress,
-        done: !written | x.finished,
-    }
+    Ok(Round { progress, done })
 }
 
-// One round: reads where bytes are wanted, and works. Where reading fails, nothing is printed.
-fn go_on(p: Progress, table: &mut [u64], block: &mut [u8], out: &mut [u8]) -> Round {
-    let got = read_more(p.wants, block, p.held);
-    if got < 0 {
-        return Round {
-            progress: p,
-            done: true,
-        };
-    }
-    let n = io::count(got, block);
-    work(p, table, block, out, n)
-}
-
-// Works the journal to its end. A proved loop has to end, so it counts down from a number that no journal uses up.
-fn replay_all(table: &mut [u64], block: &mut [u8], out: &mut [u8]) {
+// Works the journal to its end. A proved loop has to end, so it counts to a number that no journal uses up.
+fn replay_all(
+    from: Stdin,
+    to: Stdout,
+    table: &mut [u64],
+    block: &mut [u8],
+    out: &mut [u8],
+) -> io::Result<()> {
     let mut at = Round {
         progress: journal_blocks::beginning(),
         done: false,
     };
-    let mut rounds = u64::MAX;
-    while rounds > 0 && !at.done {
-        at = go_on(at.progress, table, block, out);
-        rounds -= 1;
+    for _ in 0..u64::MAX {
+        if at.done {
+            break;
+        }
+        at = go_on(from, to, at.progress, table, block, out)?;
     }
+    Ok(())
 }
 
-fn main() {
-    let mut table: [u64; TABLE_WORDS] = [0; TABLE_WORDS];
-    let mut block = io::large_buffer();
-    let mut out = io::large_buffer();
-    replay_all(&mut table, &mut block, &mut out);
+fn main(rt: HostRuntime) -> io::Result<()> {
+    let mut table = [0u64; TABLE_WORDS];
+    let mut block = [0u8; BLOCK_SIZE];
+    let mut out = [0u8; BLOCK_SIZE];
+    replay_all(rt.stdin(), rt.stdout(), &mut table, &mut block, &mut out)
 }

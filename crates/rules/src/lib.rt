@@ -8,29 +8,29 @@ use sizes::{FAULT_PLACES, MAX_ENDPOINTS, MAX_GUESTS, REGION_PLACES};
 
 // A guest's number, below the guest count.
 #[repr(C)]
-#[derive(Drop)]
+#[derive(Clone, Copy)]
 pub struct Guest(pub u8);
 
 // An endpoint's number: a device, as the bus names it.
 #[repr(C)]
-#[derive(Drop)]
+#[derive(Clone, Copy)]
 pub struct Endpoint(pub u32);
 
 // A domain's number. Each guest has domains of its own.
 #[repr(C)]
-#[derive(Drop)]
+#[derive(Clone, Copy)]
 pub struct Domain(pub u32);
 
 // The addresses, or the domain numbers, from start to end, both included.
 #[repr(C)]
-#[derive(Drop)]
+#[derive(Clone, Copy)]
 pub struct InputRange {
     pub start: u64,
     pub end: u64,
 }
 
 #[repr(C)]
-#[derive(Drop)]
+#[derive(Clone, Copy)]
 pub struct DomainRange {
     pub start: u32,
     pub end: u32,
@@ -38,7 +38,7 @@ pub struct DomainRange {
 
 // What set-up takes besides the endpoint lists: for guest g its share, and its window from firsts[g] to lasts[g].
 #[repr(C)]
-#[derive(Drop)]
+#[derive(Clone, Copy)]
 pub struct Settings {
     pub guests: usize,
     pub shares: [u32; MAX_GUESTS],
@@ -51,7 +51,7 @@ pub struct Settings {
 
 // A reserved region of an endpoint, which no mapping may meet: subtype 0 is reserved, 1 is MSI.
 #[repr(C)]
-#[derive(Drop)]
+#[derive(Clone, Copy)]
 pub struct Region {
     pub subtype: u64,
     pub start: u64,
@@ -62,7 +62,7 @@ pub struct Region {
 // fault j of guest g stands at place MAX_FAULTS * g + j of four arrays, with the guest's number of faults in logged. The regions
 // of endpoint i stand in regions from word ENDPOINT_REGION_WORDS * i on: their number, then subtype, start and end of each.
 #[repr(C)]
-#[derive(Drop)]
+#[derive(Clone, Copy)]
 pub struct State {
     pub settings: Settings,
     pub listed: usize,
@@ -83,7 +83,7 @@ pub struct State {
 // A mapping record, the five words of the table: key is guest times 2^32 plus domain, start and end are virt_start and
 // virt_end, phys is phys_start.
 #[repr(C)]
-#[derive(Drop)]
+#[derive(Clone, Copy)]
 pub struct Mapping {
     pub key: u64,
     pub start: u64,
@@ -94,7 +94,7 @@ pub struct Mapping {
 
 // A logged fault.
 #[repr(C)]
-#[derive(Drop)]
+#[derive(Clone, Copy)]
 pub struct Fault {
     pub reason: u8,
     pub flags: u32,
@@ -104,7 +104,7 @@ pub struct Fault {
 
 // An access: the endpoint that makes it, the address, and its kind, 0 a read and any other a write.
 #[repr(C)]
-#[derive(Drop)]
+#[derive(Clone, Copy)]
 pub struct Access {
     pub endpoint: Endpoint,
     pub address: u64,
@@ -112,7 +112,7 @@ pub struct Access {
 }
 
 // Why a call is refused; a refused call changes nothing.
-#[derive(Drop)]
+#[derive(Clone, Copy)]
 pub enum Refusal {
     // The guest number is not below the guest count.
     NoSuchGuest,
@@ -129,7 +129,7 @@ pub enum Refusal {
 }
 
 // Why an access is blocked; a blocked access is logged as a fault.
-#[derive(Drop)]
+#[derive(Clone, Copy)]
 pub enum Cause {
     // The endpoint is not attached.
     Unattached,
@@ -138,7 +138,7 @@ pub enum Cause {
 }
 
 // What a call is answered.
-#[derive(Drop)]
+#[derive(Clone, Copy)]
 pub enum Answer {
     // Set-up or reset, done.
     Done,
@@ -153,7 +153,7 @@ pub enum Answer {
 }
 
 // What a call gives back for an answer: its number, and the values beside it.
-#[derive(Drop)]
+#[derive(Clone, Copy)]
 pub struct Values {
     pub number: u8,
     pub used: usize,

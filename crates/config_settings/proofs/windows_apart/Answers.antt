@@ -1,0 +1,18 @@
+use native.Mathlib.Omega.{arith}
+use borrow.Author.Rules.{rules}
+use Prim.Native.Nat.{◌-◌}
+use mathlib.Core.Bool.{not}
+use Rattle.laws.specs.Lists.{below}
+use Rattle.laws.proofs.Rounds.{Tested, tested-none, tested-next, tested-all}
+use Rattle.rules.specs.Configuration.{share_address}
+use Rattle.config_settings.proofs.windows_apart.Goals as goal
+
+pub loop-g-preserved : goal.loop-g-preserved
+loop-g-preserved c = let l = c.loop-g in tested-next _ _ l.ok c.window_apart-ok.result l.g l.invariant (omega arith) c.window_apart-ok.ensures
+
+pub returns : goal.returns
+returns c = let l = c.loop-g in tested-all _ _ l.ok l.g l.invariant (omega arith)
+
+pub loop-g-init : goal.loop-g-init
+loop-g-init c =
+    tested-none _ _

@@ -1,0 +1,22 @@
+use native.Mathlib.Omega.{arith}
+use borrow.Author.Rules.{rules}
+use Prim.Native.Nat.{◌-◌}
+use mathlib.Core.Path.{◌≡◌, refl, sym, ◌∙◌}
+use mathlib.Core.Bool.{◌&&◌}
+use lib.Dec.{eqb}
+use lib.ListN.{length, drop}
+use Rattle.laws.specs.Lists.{all?}
+use Rattle.rules.specs.Sound.{zero_from}
+use Rattle.sound_zeros.proofs.Passed.{zeros-on, zeros-end}
+use Rattle.sound_zeros.proofs.zero_from.Goals as goal
+
+pub loop-i-preserved : goal.loop-i-preserved
+loop-i-preserved c = c.loop-i.invariant ∙ zeros-on c.args.x.now c.loop-i.bits c.loop-i.i (omega arith)
+
+pub returns : goal.returns
+unfolding zero_from
+returns c = sym (c.loop-i.invariant ∙ zeros-end c.args.x.now c.loop-i.bits c.loop-i.i (omega arith))
+
+pub loop-i-init : goal.loop-i-init
+loop-i-init c =
+    refl

@@ -1,0 +1,20 @@
+use native.Mathlib.Omega.{arith}
+use borrow.Author.Rules.{rules}
+use lib.ListN.{length-set}
+use Rattle.table_record.proofs.writing.store.Goals as goal
+
+pub bounds-t-at-2 : goal.bounds-t-at-2
+bounds-t-at-2 c =
+    simp length-set (omega arith)
+
+pub bounds-t-at-3 : goal.bounds-t-at-3
+bounds-t-at-3 c =
+    simp length-set (omega arith)
+
+pub bounds-t-at-4 : goal.bounds-t-at-4
+bounds-t-at-4 c =
+    simp length-set (omega arith)
+
+pub bounds-t-at-5 : goal.bounds-t-at-5
+bounds-t-at-5 c =
+    simp length-set (omega arith)
