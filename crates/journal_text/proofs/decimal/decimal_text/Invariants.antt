@@ -10,8 +10,8 @@ use Rattle.journal_text.specs.Text.{decimal}
 use Rattle.journal_text.proofs.Numbers.{decimal-one, decimal-more, tenth}
 use Rattle.journal_text.proofs.Places.{drop-set}
 
-abbrev pub invariant-loop-n : goal.invariant-loop-n-n
+abbrev pub invariant-loop-n : goal.invariant-loop-n
 invariant-loop-n l = (l.i < 20) × (length l.bytes ≡ 21) × (l.n < 10 ^ (l.i + 1)) × (decimal l.x ++ (l.end ∷ []) ≡ decimal l.n ++ drop (l.i + 1) l.bytes)
 
-abbrev pub decreases-loop-n : goal.decreases-loop-n-n
+abbrev pub decreases-loop-n : goal.decreases-loop-n
 decreases-loop-n l = l.n

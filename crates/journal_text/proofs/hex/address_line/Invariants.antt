@@ -10,8 +10,8 @@ use Rattle.journal_text.specs.Text.{newline, address, hex_digits}
 use Rattle.journal_text.proofs.Numbers.{hex_digits-next}
 use Rattle.journal_text.proofs.Places.{drop-set}
 
-abbrev pub invariant-loop-i : goal.invariant-loop-i-i
+abbrev pub invariant-loop-i : goal.invariant-loop-i
 invariant-loop-i l = (l.i ≤ 16) × (length l.line ≡ 17) × (address l.x ++ (newline ∷ []) ≡ hex_digits l.i l.n ++ drop l.i l.line)
 
-abbrev pub decreases-loop-i : goal.decreases-loop-i-i
+abbrev pub decreases-loop-i : goal.decreases-loop-i
 decreases-loop-i l = l.i

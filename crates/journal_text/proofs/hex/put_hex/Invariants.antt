@@ -13,9 +13,9 @@ use Rattle.journal_text.specs.Text.{hex_line}
 use Rattle.journal_text.proofs.Numbers.{hex_line-length, hex_line-byte, hex_line-end}
 use Rattle.journal_text.proofs.Places.{placed-paste, room-placed, none-placed}
 
-abbrev pub invariant-loop-i : goal.invariant-loop-i-i
+abbrev pub invariant-loop-i : goal.invariant-loop-i
 invariant-loop-i l =
     (l.i ≤ l.n) × (l.n ≡ length l.bytes) × (l.at + (2 * l.n + 1) ≤ length l.initial.out) × (length l.out ≡ length l.initial.out) × (l.out ≡ paste l.initial.out l.at (hex_line l.bytes) (2 * l.i))
 
-abbrev pub decreases-loop-i : goal.decreases-loop-i-i
+abbrev pub decreases-loop-i : goal.decreases-loop-i
 decreases-loop-i l = l.n - l.i

@@ -10,9 +10,9 @@ use lib.ListN.{length, length-set}
 use lib.Seq.{paste, paste-zero, paste-suc}
 use Rattle.journal_text.proofs.Places.{placed-paste, room-placed, none-placed}
 
-abbrev pub invariant-loop-i : goal.invariant-loop-i-i
+abbrev pub invariant-loop-i : goal.invariant-loop-i
 invariant-loop-i l =
     (l.i ≤ l.i-end) × (l.i-end ≡ length l.bytes) × (l.at + length l.bytes ≤ length l.initial.out) × (length l.out ≡ length l.initial.out) × (l.out ≡ paste l.initial.out l.at l.bytes l.i)
 
-abbrev pub decreases-loop-i : goal.decreases-loop-i-i
+abbrev pub decreases-loop-i : goal.decreases-loop-i
 decreases-loop-i l = l.i-end - l.i

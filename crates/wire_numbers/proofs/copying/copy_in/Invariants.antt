@@ -8,8 +8,8 @@ use borrow.Author.Rules.{rules}
 use lib.ListN.{length, length-set}
 use Rattle.wire_numbers.proofs.Laws.{copied, copied_next, copied_all}
 
-abbrev pub invariant-loop-i : goal.invariant-loop-i-i
+abbrev pub invariant-loop-i : goal.invariant-loop-i
 invariant-loop-i l = (l.i ≤ l.n) × (l.n ≡ min (length l.bytes) (length l.initial.out)) × (length l.out ≡ length l.initial.out) × (l.out ≡ copied l.i l.bytes l.initial.out)
 
-abbrev pub decreases-loop-i : goal.decreases-loop-i-i
+abbrev pub decreases-loop-i : goal.decreases-loop-i
 decreases-loop-i l = l.n - l.i

@@ -7,8 +7,8 @@ use borrow.Author.Rules.{rules}
 use Rattle.laws.specs.Bytes.{le_field}
 use Rattle.wire_numbers.proofs.Laws.{field_next, below_next, below-fits}
 
-abbrev pub invariant-loop-left : goal.invariant-loop-left-left
+abbrev pub invariant-loop-left : goal.invariant-loop-left
 invariant-loop-left l = (l.left ≤ l.n) × (l.x ≡ le_field (l.k + l.left) (l.n - l.left) l.bytes) × (l.x < 256 ^ (l.n - l.left))
 
-abbrev pub decreases-loop-left : goal.decreases-loop-left-left
+abbrev pub decreases-loop-left : goal.decreases-loop-left
 decreases-loop-left l = l.left

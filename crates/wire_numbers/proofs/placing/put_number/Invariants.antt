@@ -10,10 +10,10 @@ use lib.Seq.{drop-set-lt}
 use Rattle.laws.specs.Bytes.{le_bytes}
 use Rattle.wire_numbers.proofs.Laws.{put_next}
 
-abbrev pub invariant-loop-i : goal.invariant-loop-i-i
+abbrev pub invariant-loop-i : goal.invariant-loop-i
 invariant-loop-i l =
     (l.i ≤ l.n) × (length l.bytes ≡ length l.initial.bytes) × (drop (l.k + l.n) l.bytes ≡ drop (l.k + l.n) l.initial.bytes)
     × (take (l.k + l.i) l.bytes ++ (le_bytes (l.n - l.i) l.rest ++ drop (l.k + l.n) l.initial.bytes) ≡ take l.k l.initial.bytes ++ (le_bytes l.n l.x ++ drop (l.k + l.n) l.initial.bytes))
 
-abbrev pub decreases-loop-i : goal.decreases-loop-i-i
+abbrev pub decreases-loop-i : goal.decreases-loop-i
 decreases-loop-i l = l.n - l.i
