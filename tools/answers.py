@@ -35,6 +35,7 @@ class Function:
             self.places[old] = new
             if field[0]:
                 self.steps[norm(field[0])] = field[1]
+        self.callees = {norm(x[2][0]): entry["params"].get(x[3]) for x in entry["places"] if x[3]}
         self.arms = {}
         for arm in entry["arms"]:
             if arm:
@@ -57,6 +58,8 @@ def chain(base, subs, aliases, f, left):
     head = []
     if base in aliases:
         kind, path = aliases[base]
+        if kind == "step" and subs[:1] != ["new"]:
+            return None
         head = path
     elif base != "c":
         return None
@@ -66,7 +69,8 @@ def chain(base, subs, aliases, f, left):
     if not parts:
         return "c"
     step, rest = parts[0], parts[1:]
-    if step in ("args", "lifetimes", "requires", "ranges", "type_inv"):
+    if step in ("args", "lifetimes", "requires", "ranges", "type_inv", "well_formed", "well-formed"):
+        step = step.replace("-", "_")
         return ".".join(["c", step] + rest)
     if step == "pre":
         return ".".join(["c", "requires"] + rest)
@@ -81,6 +85,12 @@ def chain(base, subs, aliases, f, left):
         if re.match(r"if\d*$|.*_test$|test\d*$", key):
             rest = [TURN.get(r, r) for r in rest]
         rest = ["invariant" if r == "inv" else r for r in rest]
+        if rest[:1] == ["new"] and f.callees.get(key):
+            k = 1
+            while rest[k : k + 1] == ["1"]:
+                k += 1
+            if rest[k : k + 1] == ["0"]:
+                rest = ["new", f.callees[key][k - 1]] + rest[k + 1 :]
         return ".".join(["c", f.steps[key]] + rest)
     left.append(base + "." + ".".join(subs))
     return None
@@ -102,22 +112,26 @@ def turn_body(text, f, left):
                 if kept.strip():
                     out.append(turn_line(kept, aliases, f, left))
                 continue
-            if bare[0] not in ("args", "pre", "requires", "ranges") and (bare[-1] == "given" or (norm(bare[0]), tuple(bare[1:])) in f.arms or any(k[0] == norm(bare[0]) and k[1] and tuple(bare[1:]) == k[1][: len(bare) - 1] for k in f.arms)):
+            if bare[0] not in ("args", "pre", "requires", "ranges", "well-formed", "well_formed") and (bare[-1] == "given" or (norm(bare[0]), tuple(bare[1:])) in f.arms or any(k[0] == norm(bare[0]) and k[1] and tuple(bare[1:]) == k[1][: len(bare) - 1] for k in f.arms)):
                 aliases[m[2]] = ("arm", bare)
                 kept = line[: line.index("let ")] + m[5].lstrip()
                 if kept.strip():
                     out.append(turn_line(kept, aliases, f, left))
                 continue
+            if len(bare) == 1 and norm(bare[0]) in f.callees:
+                aliases[m[2]] = ("step", bare)
         out.append(turn_line(line, aliases, f, left))
     return "\n".join(out)
 
 
+# A test `!b` says of b what it is, where the older kit spoke of `not b`.
 def turn_line(line, aliases, f, left):
     def path(m):
         new = chain(m[1], m[2], aliases, f, left)
         return m[0] if new is None else new
 
     line = CHAIN.sub(path, line)
+    line = re.sub(r"(?<![\w.'-])not-(?:true|false) (?:[\w.'-]+|\([^()]*\)) (c\.if-not-[\w-]+\.(?:true|false))", r"\1", line)
     for name, (kind, path_) in aliases.items():
         if kind == "place":
             line = re.sub(rf"(?<![\w.'-]){re.escape(name)}(?![\w.'-])", "c", line)
@@ -214,10 +228,13 @@ def invariants(groups, f, said):
         params = lines[k].split("=")[0].split()[1:]
         body = "\n".join([lines[k].split("=", 1)[1]] + lines[k + 1 :])
         names = {}
-        firsts = [p for p in params if not p.endswith("₀")]
-        for p in params:
-            base = p.rstrip("₀")
-            names[p] = f"l.initial.{base}" if p.endswith("₀") else f"l.{base}"
+        still = [v for v, moves in zip(variables, changed) if not moves]
+        moving = [v for v, moves in zip(variables, changed) if moves]
+        live = [f"l.{v}" for v in still] + [f"l.initial.{v}" for v in moving] + [f"l.{v}" for v in moving]
+        if len(live) != len(params):
+            said.append(f"{name}: {len(params)} parameters for {' '.join(live)}")
+            return None
+        names = dict(zip(params, live))
         for p in sorted(names, key=len, reverse=True):
             body = re.sub(rf"(?<![\w.'-]){re.escape(p)}(?![\w'₀-]| =)", names[p], body)
         head = lines[:k]
