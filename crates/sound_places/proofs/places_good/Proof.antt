@@ -13,24 +13,24 @@ use Rattle.sound_places.proofs.places_good.Tie as tie
 own-lengths : (c : tie.Start) → (length c.args.settings.shares ≡ max_guests) × (length c.args.settings.firsts ≡ max_guests) × (length c.args.settings.lasts ≡ max_guests)
 own-lengths c = (search rules, search rules, search rules)
 
-returns : tie.Need-returns
+returns : tie.Need-returns-then-settings-gt-MAX_GUESTS
 returns c = rw (lt-leb c.before.before.args.settings.guests max_guests (omega arith))
 
-returns-2 : tie.Need-returns-2
+returns-2 : tie.Need-returns-then-listed-gt-MAX_ENDPOINTS
 returns-2 c =
     let a = c.before.before.before.args in
     rw (le-leb a.settings.guests max_guests (omega arith), lt-leb a.listed max_endpoints (omega arith))
 
-guests-good-requires : tie.Need-guests-good-requires
-guests-good-requires c κs = (c.before.guests-good-arg.given.0, c.guests-good-arg2.given.0)
+guests-good-requires : tie.Need-guests_good-requires
+guests-good-requires c κs = (c.before.guests_good-arg-1.given.0, c.guests_good-arg-2-1.given.0)
 
-endpoints-good-requires : tie.Need-endpoints-good-requires
+endpoints-good-requires : tie.Need-endpoints_good-requires
 endpoints-good-requires c κs =
     let c3 = c.before in
     let c2 = c3.before in
-    (c2.before.endpoints-good-arg.given.0, c2.endpoints-good-arg2.given.0, c3.endpoints-good-arg3.given.0, c.endpoints-good-arg4.given.0)
+    (c2.before.endpoints_good-arg-1.given.0, c2.endpoints_good-arg-2-1.given.0, c3.endpoints_good-arg-3-1.given.0, c.endpoints_good-arg-4-1.given.0)
 
-returns-3 : tie.Need-returns-3
+returns-3 : tie.Need-returns
 returns-3 c =
     let c4 = c.before in
     let c3 = c4.before in
@@ -43,21 +43,21 @@ returns-3 c =
     let a = start.args in
     let own = own-lengths start in
     let s = places_alone a.settings a.listed a.endpoints.now a.owners.now a.attached.now a.domains.now a.logged.now a.lost.now in
-    rw (le-leb a.settings.guests max_guests (omega arith), le-leb a.listed max_endpoints (omega arith), c.endpoints-good.ensures, g.guests-good.ensures)
+    rw (le-leb a.settings.guests max_guests (omega arith), le-leb a.listed max_endpoints (omega arith), c.endpoints_good.ensures, g.guests_good.ensures)
     (places-are s
     (record {
       shares = own.0;
       firsts = own.1;
       lasts = own.2;
-      logged = g1.guests-good-arg.given.0;
-      lost = g2.guests-good-arg2.given.0;
-      endpoints = c1.endpoints-good-arg.given.0;
-      owners = c2.endpoints-good-arg2.given.0;
-      attached = c3.endpoints-good-arg3.given.0;
-      domains = c4.endpoints-good-arg4.given.0;
+      logged = g1.guests_good-arg-1.given.0;
+      lost = g2.guests_good-arg-2-1.given.0;
+      endpoints = c1.endpoints_good-arg-1.given.0;
+      owners = c2.endpoints_good-arg-2-1.given.0;
+      attached = c3.endpoints_good-arg-3-1.given.0;
+      domains = c4.endpoints_good-arg-4-1.given.0;
     })
     (omega arith)
     (omega arith))
 
-pub places-good-spec : {M : Type 1} → statement M
-places-good-spec = tie.close (tie.spec returns returns-2 guests-good-requires endpoints-good-requires returns-3)
+pub places_good_spec : {M : Type 1} → statement M
+places_good_spec = tie.close (tie.spec returns returns-2 guests-good-requires endpoints-good-requires returns-3)
