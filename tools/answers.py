@@ -81,6 +81,8 @@ def chain(base, subs, aliases, f, left):
             return ".".join(["c", new] + rest[k:])
     if key in f.typed and rest[:1] == ["given"]:
         return ".".join(["c", "type_inv", f.typed[key]] + rest[1:])
+    if key in f.steps and rest[:1] == ["rest"]:
+        return ".".join(["c", f.steps[key], f.steps[key] + "-own"] + rest[1:])
     if key in f.steps:
         if re.match(r"if\d*$|.*_test$|test\d*$", key):
             rest = [TURN.get(r, r) for r in rest]
@@ -297,7 +299,7 @@ def turn(crate, path, f, said):
             continue
         body = rename(turn_body(m[3], f, left))
         extra = m[2] or ""
-        out += [f"pub {new} : goal.{new}", f"{new} c{extra} =\n    " + body, ""]
+        out += [f"pub {new} : goal.{new}", *[x for x in spec[1] if x.startswith("unfolding ")], f"{new} c{extra} =\n    " + body, ""]
     inv = invariants(groups, f, said)
     if inv is None:
         return False

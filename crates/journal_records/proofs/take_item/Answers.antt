@@ -69,4 +69,15 @@ returns-in-34 c = rw c.in-34.is
 
 pub returns-in_default : goal.returns-in_default
 unfolding item_of
-returns-in_default c = ?
+returns-in_default c =
+    let r = c.in_default.in_default-own in
+    rw (
+      ne_eqb _ _ r.0.0.0.0.0.0.0.1,
+      ne_eqb _ _ r.0.0.0.0.0.0.1,
+      ne_eqb _ _ r.0.0.0.0.0.1,
+      ne_eqb _ _ r.0.0.0.0.1,
+      ne_eqb _ _ r.0.0.0.1,
+      ne_eqb _ _ r.0.0.1,
+      ne_eqb _ _ r.0.1,
+      ne_eqb _ _ r.1,
+    )
