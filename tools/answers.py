@@ -82,7 +82,7 @@ def chain(base, subs, aliases, f, left):
     if key in f.typed and rest[:1] == ["given"]:
         return ".".join(["c", "type_inv", f.typed[key]] + rest[1:])
     if key in f.steps and rest[:1] == ["rest"]:
-        return ".".join(["c", f.steps[key], f.steps[key] + "-own"] + rest[1:])
+        return ".".join(["c", f.steps[key], f.steps[key] + "-own"] + rest)
     if key in f.steps:
         if re.match(r"if\d*$|.*_test$|test\d*$", key):
             rest = [TURN.get(r, r) for r in rest]
@@ -230,9 +230,8 @@ def invariants(groups, f, said):
         params = lines[k].split("=")[0].split()[1:]
         body = "\n".join([lines[k].split("=", 1)[1]] + lines[k + 1 :])
         names = {}
-        still = [v for v, moves in zip(variables, changed) if not moves]
-        moving = [v for v, moves in zip(variables, changed) if moves]
-        live = [f"l.{v}" for v in still] + [f"l.initial.{v}" for v in moving] + [f"l.{v}" for v in moving]
+        live = [f"l.initial.{v}" if moves else f"l.{v}" for v, moves in zip(variables, changed)]
+        live += [f"l.{v}" for v, moves in zip(variables, changed) if moves]
         if len(live) != len(params):
             said.append(f"{name}: {len(params)} parameters for {' '.join(live)}")
             return None

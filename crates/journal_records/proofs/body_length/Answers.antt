@@ -6,7 +6,7 @@ use Rattle.journal_records.proofs.body_length.Goals as goal
 pub returns-in_default : goal.returns-in_default
 unfolding body_length
 returns-in_default c =
-    let r = c.in_default.in_default-own in (
+    let r = c.in_default.in_default-own.rest in (
       rw (
         ne_eqb _ _ r.0.0.0.0.0.0.0.0.0.0.1,
         ne_eqb _ _ r.0.0.0.0.0.0.0.0.0.1,

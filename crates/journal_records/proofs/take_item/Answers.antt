@@ -70,7 +70,7 @@ returns-in-34 c = rw c.in-34.is
 pub returns-in_default : goal.returns-in_default
 unfolding item_of
 returns-in_default c =
-    let r = c.in_default.in_default-own in
+    let r = c.in_default.in_default-own.rest in
     rw (
       ne_eqb _ _ r.0.0.0.0.0.0.0.1,
       ne_eqb _ _ r.0.0.0.0.0.0.1,

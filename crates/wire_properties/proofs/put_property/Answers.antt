@@ -15,7 +15,7 @@ returns-then-out-eq-PROPERTY_SIZE c =
     let e : take 24 (property_put a.q) ≡ property_put a.q = take_all 24 (property_put a.q) (omega (arith, length-property a.q)) in
     rw (eq-eqb (length a.out.now) 24 c.if-out-eq-PROPERTY_SIZE.true)
     (c.copy_in.ensures
-    ∙ rw (c.property_bytes-bytes.ensures, length-property a.q, c.if-out-eq-PROPERTY_SIZE.true, e, drop_of_length-le a.out.now {c = 24} (omega arith)) (append-nil (property_put a.q)))
+    ∙ rw (c.property_bytes-bytes.ensures, length-property a.q, c.if-out-eq-PROPERTY_SIZE.true, e, drop_of_length-le a.out.now {i = 24} (omega arith)) (append-nil (property_put a.q)))
 
 pub returns-else-out-eq-PROPERTY_SIZE : goal.returns-else-out-eq-PROPERTY_SIZE
 returns-else-out-eq-PROPERTY_SIZE c = rw (ne_eqb (length c.args.out.now) 24 c.if-out-eq-PROPERTY_SIZE.false)
