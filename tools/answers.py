@@ -19,7 +19,7 @@ TURN = {"taken": "true", "left": "false", "inv": "invariant"}
 
 
 def norm(name):
-    return name.replace("-", "_")
+    return name.replace("-", "_").lower()
 
 
 class Function:
@@ -48,6 +48,9 @@ class Function:
     def need(self, old):
         for a, b in self.needs:
             if a == old or norm(a) == norm(old):
+                return b
+        for _, b in self.needs:
+            if norm(b) == norm(old):
                 return b
         return None
 
@@ -194,6 +197,39 @@ def split_args(text):
     return args
 
 
+def split_branch(text, module, uses):
+    """`⊎_elim` of a branch becomes an `elim` with a case for each arm."""
+    at = 0
+    while (at := text.find("⊎_elim", at)) >= 0:
+        k, args = at + len("⊎_elim"), []
+        while len(args) < 3:
+            while text[k].isspace():
+                k += 1
+            begin, depth = k, 0
+            while k < len(text) and (depth or not text[k].isspace() and text[k] not in ",)"):
+                depth += (text[k] in "([{") - (text[k] in ")]}")
+                k += 1
+            args.append(text[begin:k])
+        m = re.fullmatch(r"c\.if-([\w-]+)\.branch", args[2])
+        if not m:
+            return text
+        arms = []
+        for side, test, arg in (("then", "true", args[0]), ("else", "false", args[1])):
+            body = re.fullmatch(r"\(λ w\. (.*)\)", arg, re.S)
+            if not body:
+                return text
+            body = re.sub(r"\bw\.0\.(taken|left|true|false)\b", f"w.if-{m[1]}.{test}", body[1])
+            body = re.sub(r"omega \(arith, w\.if-[\w-]+\.\w+, w\.1\)", "omega arith", body)
+            arms.append(f"{side}-{m[1]} w ↦ {body}")
+        new = f"elim {args[2]} [\n      {arms[0]}\n    | {arms[1]}\n    ]"
+        text = text[:at] + new + text[k:]
+        line = f"use {module}.Goals.{{then-{m[1]}, else-{m[1]}}}"
+        if line not in uses:
+            uses.append(line)
+        at += len(new)
+    return text
+
+
 def spec_args(group):
     text = "\n".join(group)
     at = text.index("tie.spec")
@@ -310,7 +346,8 @@ def turn(crate, path, f, said):
         write(folder + "/Invariants.antt", text)
         comment = []
     if any(x.startswith("pub ") and ": goal." in x for x in "\n".join(out).split("\n")):
-        write(folder + "/Answers.antt", comment + uses + [f"use {module}.Goals as goal", ""] + out)
+        text = split_branch("\n".join(out), module, uses)
+        write(folder + "/Answers.antt", comment + uses + [f"use {module}.Goals as goal", "", text])
     os.remove(folder + "/Proof.antt")
     if not os.listdir(folder):
         os.rmdir(folder)
@@ -342,7 +379,8 @@ def keep_form(folder, text, f, said, path):
         return "." + f.steps.get(key, m[1])
 
     text = re.sub(r"(?<=[\w)])\.([a-z][\w-]*)(?![\w-])", field, text)
-    text = text.replace(".taken", ".true").replace(".inv.", ".invariant.")
+    text = re.sub(r"\.taken(?![\w-])", ".true", text).replace(".inv.", ".invariant.")
+    text = re.sub(r"(?<![\w.'-])not-(?:true|false) (?:[\w.'-]+|\([^()]*\)) ([\w.'-]*\.if-not-[\w-]+\.(?:true|false))", r"\1", text)
     m = re.search(r"pub ([\w-]+)-spec : ", text)
     if m:
         text = text.replace(m[1] + "-spec", path.split("/")[-1] + "_spec")
