@@ -21,7 +21,7 @@ TURN = {"taken": "true", "left": "false", "inv": "invariant"}
 
 
 def norm(name):
-    return name.replace("-", "_").lower()
+    return re.sub(r"_lem$", "", name.replace("-", "_").lower())
 
 
 class Function:
@@ -138,6 +138,7 @@ def turn_line(line, aliases, f, left):
         return m[0] if new is None else new
 
     line = CHAIN.sub(path, line)
+    line = re.sub(r"c\.[\w-]+-arg[\w-]*\.given\.0", "(search rules)", line)
     line = re.sub(r"(?<![\w.'-])not-(?:true|false) (?:[\w.'-]+|\([^()]*\)) (c\.if-not-[\w-]+\.(?:true|false))", r"\1", line)
     for name, (kind, path_) in aliases.items():
         if kind == "place":
@@ -291,16 +292,20 @@ def turn(crate, path, f, said):
     args = spec_args(spec[1])
     loops = [a for a in args if re.match(r"^(invariant|decreases)-", a)]
     answers = args[len(loops) :]
-    if len(answers) != len(f.needs):
-        said.append(f"{path}: {len(answers)} answers, {len(f.needs)} goals")
-        return False
+    needs = f.needs
+    if len(answers) != len(needs):
+        # The kit asks for other goals than the older one: those that only search are left to it, the others go by their names.
+        said.append(f"{path}: {len(answers)} answers, {len(needs)} goals")
+        answers = [a for a in answers if re.fullmatch(r"[^\s()]+", a)]
+        asked = [re.search(rf"^{re.escape(a)} : tie\.Need-([\w-]+)", text, re.M) for a in answers]
+        needs = [(m[1], f.need(m[1])) for m in asked]
     if PLACE.search(text):
         return keep_form(folder, text, f, said, path)
     head = [h for h in head if "meets its contract" not in h]
     module = f"Rattle.{crate}.proofs.{path.replace('/', '.')}"
     uses = [u for u in uses if not re.search(r"\.(Statement\.\{statement\}|Tie as tie)$", u)]
     names = {}
-    for arg, (_, new) in zip(answers, f.needs):
+    for arg, (_, new) in zip(answers, needs):
         if re.fullmatch(r"[^\s()]+", arg):
             names.setdefault(arg, new)
     out = []
@@ -323,7 +328,7 @@ def turn(crate, path, f, said):
             said.append(f"{path}: {name} speaks of tie")
         body = turn_body(body, f, left)
         out += [rename(body) if name not in names else rename_rest(body, rename), ""]
-    for arg, (_, new) in zip(answers, f.needs):
+    for arg, (_, new) in zip(answers, needs):
         if re.fullmatch(r"[^\s()]+", arg):
             if names.get(arg) != new:
                 out += [f"pub {new} : goal.{new}", f"{new} c = {names[arg]} c", ""]
@@ -382,9 +387,16 @@ def keep_form(folder, text, f, said, path):
             return ".requires"
         return "." + (f.steps.get(key, m[1]) if key not in FIELDS else m[1])
 
-    text = re.sub(r"(?<=[\w)])\.([a-z][\w-]*)(?![\w-])", field, text)
+    def given(m):
+        names = f.callees.get(norm(m[1]))
+        return f".{m[1]}.new." + names[m[2].count("1")] if names else m[0]
+
+    text = re.sub(r"\.([a-z][\w-]*)\.new\.((?:1\.)*0)(?![\w.])", given, text)
+    text = re.sub(r"(?<=[\w)])(?<!args)(?<!\.new)\.([a-z][\w-]*)(?![\w-])", field, text)
+    text = re.sub(r"(\.(?:if-[\w-]+|[\w-]+-test))\.left(?![\w-])", r"\1.false", text)
+    text = re.sub(r"(-arg-[\w-]*\.given)\.0(?![\w.])", r"\1", text)
     text = re.sub(r"\.taken(?![\w-])", ".true", text).replace(".inv.", ".invariant.")
-    text = re.sub(r"(?<![\w.'-])not-(?:true|false) (?:[\w.'-]+|\([^()]*\)) ([\w.'-]*\.if-not-[\w-]+\.(?:true|false))", r"\1", text)
+    text = re.sub(r"(?<![\w.'-])not-(?:true|false) (?:[\w.'-]+|\([^()]*\)) ([\w.'-]*(?:\([^()]*\))?\.if-not-[\w-]+\.(?:true|false))", r"\1", text)
     m = re.search(r"pub ([\w-]+)-spec : ", text)
     if m:
         text = text.replace(m[1] + "-spec", path.split("/")[-1] + "_spec")

@@ -9,57 +9,57 @@ use Rattle.sound.proofs.Verdict.{words-missing, live-past, endpoints-missing, se
 use Rattle.sound.proofs.frame_good.Statement.{statement}
 use Rattle.sound.proofs.frame_good.Tie as tie
 
-returns : tie.Need-returns
-returns c = sym (words-missing _ _ _ _ _ _ _ (ne_eqb _ _ c.if1.true))
+returns : tie.Need-returns-then-t-ne-TABLE_WORDS
+returns c = sym (words-missing _ _ _ _ _ _ _ (ne_eqb _ _ c.if-t-ne-TABLE_WORDS.true))
 
-returns-2 : tie.Need-returns-2
-returns-2 c = sym (live-past _ _ _ _ _ _ _ (lt-leb _ _ c.if2.true))
+returns-2 : tie.Need-returns-then-live-gt-MAX_RECORDS
+returns-2 c = sym (live-past _ _ _ _ _ _ _ (lt-leb _ _ c.if-live-gt-MAX_RECORDS.true))
 
-returns-3 : tie.Need-returns-3
-returns-3 c = sym (endpoints-missing _ _ _ _ _ _ _ (sym c.before.has-places.ensures ∙ not-true _ c.if3.true))
+returns-3 : tie.Need-returns-then-not-has_places
+returns-3 c = sym (endpoints-missing _ _ _ _ _ _ _ (sym c.before.has_places.ensures ∙ c.if-not-has_places.true))
 
-returns-4 : tie.Need-returns-4
-returns-4 c = sym (settings-bad _ _ _ _ _ _ _ (sym c.before.good-settings.ensures ∙ not-true _ c.if4.true))
+returns-4 : tie.Need-returns-then-not-good_settings
+returns-4 c = sym (settings-bad _ _ _ _ _ _ _ (sym c.before.good_settings.ensures ∙ c.if-not-good_settings.true))
 
-returns-5 : tie.Need-returns-5
-returns-5 c = sym (lists-bad _ _ _ _ _ _ _ (sym c.before.good-lists.ensures ∙ not-true _ c.if5.true))
+returns-5 : tie.Need-returns-then-not-good_lists
+returns-5 c = sym (lists-bad _ _ _ _ _ _ _ (sym c.before.good_lists.ensures ∙ c.if-not-good_lists.true))
 
 -- the lists have passed their test
-module _ (c : tie.Else5) where
-  abbrev configured : tie.Else4
+module _ (c : tie.Else-not-good_lists) where
+  abbrev configured : tie.Else-not-good_settings
   configured = c.before.before.before.before
 
-  abbrev placed : tie.Else3
+  abbrev placed : tie.Else-not-has_places
   placed = configured.before.before
 
   abbrev start : tie.Start
   start = placed.before.before.before.before.before.before
 
   places : eqb (length (take start.args.listed start.args.endpoints.now)) start.args.listed ≡ true
-  places = sym placed.before.has-places.ensures ∙ not-false _ placed.if3.left
+  places = sym placed.before.has_places.ensures ∙ placed.if-not-has_places.false
 
   lists : good_lists start.args.settings (take start.args.listed start.args.endpoints.now) (take start.args.listed start.args.owners.now) ≡ true
-  lists = sym c.before.good-lists.ensures ∙ not-false _ c.if5.false
+  lists = sym c.before.good_lists.ensures ∙ c.if-not-good_lists.false
 
-regions-formed-requires : tie.Need-regions-formed-requires
-regions-formed-requires c κs = (few _ _ _ _ (places c.before) (lists c.before), c.regions-formed-arg.given.0)
+regions-formed-requires : tie.Need-regions_formed-requires
+regions-formed-requires c κs = (few _ _ _ _ (places c.before) (lists c.before), c.regions_formed-arg-1.given)
 
-returns-6 : tie.Need-returns-6
+returns-6 : tie.Need-returns
 returns-6 c =
     let e5 = c.before.before in
     let e4 = configured e5 in
     let e3 = placed e5 in
     let e2 = e3.before.before.before in
-    c.regions-formed.ensures
+    c.regions_formed.ensures
     ∙ regions-decide _ _ _ _ _ _ _
-    e2.before.if1.left
-    e2.if2.left
+    e2.before.if-t-ne-TABLE_WORDS.false
+    e2.if-live-gt-MAX_RECORDS.false
     (places e5)
-    (sym e4.before.good-settings.ensures ∙ not-false _ e4.if4.left)
+    (sym e4.before.good_settings.ensures ∙ e4.if-not-good_settings.false)
     (lists e5)
 
-pub frame-good-spec : {M : Type 1} → statement M
-frame-good-spec =
+pub frame_good_spec : {M : Type 1} → statement M
+frame_good_spec =
     tie.close
     (tie.spec
     returns

@@ -34,27 +34,27 @@ returns c =
     let c1 = c2.before in
     let start = c1.before.before in
     let own = own-lengths start in (
-      c.tests-pass.ensures,
+      c.tests_pass.ensures,
       (
         record {
           shares = own.0;
           firsts = own.1;
           lasts = own.2;
-          endpoints = c1.show-lengths-arg.given.0;
-          owners = c2.show-lengths-arg2.given.0;
-          attached = c3.show-lengths-arg3.given.0;
-          domains = c4.show-lengths-arg4.given.0;
-          regions = c5.show-lengths-arg5.given.0;
-          logged = c6.show-lengths-arg6.given.0;
-          lost = c7.show-lengths-arg7.given.0;
-          reasons = c8.show-lengths-arg8.given.0;
-          flags = c9.show-lengths-arg9.given.0;
-          sources = c10.show-lengths-arg10.given.0;
-          addresses = c11.show-lengths-arg11.given.0;
+          endpoints = c1.show_lengths-arg-1.given;
+          owners = c2.show_lengths-arg-2-1.given;
+          attached = c3.show_lengths-arg-3-1.given;
+          domains = c4.show_lengths-arg-4-1.given;
+          regions = c5.show_lengths-arg-5-1.given;
+          logged = c6.show_lengths-arg-6-1.given;
+          lost = c7.show_lengths-arg-7-1.given;
+          reasons = c8.show_lengths-arg-8-1.given;
+          flags = c9.show_lengths-arg-9-1.given;
+          sources = c10.show_lengths-arg-10-1.given;
+          addresses = c11.show_lengths-arg-11-1.given;
         },
         lasts_fit start,
       ),
     )
 
-pub is-sound-spec : {M : Type 1} → statement M
-is-sound-spec = tie.close (tie.spec (λ c κs. search rules) (λ c κs. search rules) returns)
+pub is_sound_spec : {M : Type 1} → statement M
+is_sound_spec = tie.close (tie.spec (λ c κs. search rules) (λ c κs. search rules) returns)

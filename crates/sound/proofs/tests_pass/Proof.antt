@@ -21,74 +21,74 @@ device c =
     a.addresses.now a.t.now
 
 -- the frame, once its test has passed
-frame : (c : tie.Else1) → Framed (device c.before.before.before)
+frame : (c : tie.Else-not-frame_good) → Framed (device c.before.before.before)
 unfolding framed config_of
-frame c = frame-facts (device c.before.before.before) (sym c.before.frame-good.ensures ∙ not-false _ c.if1.false)
+frame c = frame-facts (device c.before.before.before) (sym c.before.frame_good.ensures ∙ c.if-not-frame_good.false)
 
-returns : tie.Need-returns
+returns : tie.Need-returns-then-not-frame_good
 unfolding framed config_of
-returns c = sym (frame-fails (device c.before.before.before) (sym c.before.frame-good.ensures ∙ not-true _ c.if1.true))
+returns c = sym (frame-fails (device c.before.before.before) (sym c.before.frame_good.ensures ∙ c.if-not-frame_good.true))
 
-returns-2 : tie.Need-returns-2
+returns-2 : tie.Need-returns-then-not-places_good
 unfolding config_of attachment_good
 returns-2 c =
     let e1 = c.before.before in
     let d = device e1.before.before.before in
-    let listed = granted _ _ false (guests-fit d (frame e1)) c.before.places-good.ensures (not-true _ c.if2.true) in
+    let listed = granted _ _ false (guests-fit d (frame e1)) c.before.places_good.ensures (c.if-not-places_good.true) in
     sym (places-fail d (granted _ _ false (endpoints-fit d (frame e1)) refl listed))
 
-returns-3 : tie.Need-returns-3
+returns-3 : tie.Need-returns-then-not-faults_good
 unfolding config_of own fault_good fault_place_good
 returns-3 c =
     let e1 = c.before.before.before.before in
     let d = device e1.before.before.before in
-    sym (logs-fail d (granted _ _ false (endpoints-fit d (frame e1)) c.before.faults-good.ensures (not-true _ c.if3.true)))
+    sym (logs-fail d (granted _ _ false (endpoints-fit d (frame e1)) c.before.faults_good.ensures (c.if-not-faults_good.true)))
 
-returns-4 : tie.Need-returns-4
+returns-4 : tie.Need-returns-then-not-zero_from
 returns-4 c =
     let e1 = c.before.before.before.before.before.before in
-    sym (zeros-fail (device e1.before.before.before) (sym c.before.zero-from.ensures ∙ not-true _ c.if4.true))
+    sym (zeros-fail (device e1.before.before.before) (sym c.before.zero_from.ensures ∙ c.if-not-zero_from.true))
 
-mul-zero-from : tie.Need-overflow-mul-zero-from
+mul-zero-from : tie.Need-overflow_mul-live
 mul-zero-from c = record { fits = omega (arith, (frame c.before.before.before.before).live) }
 
 -- what the pass over the records gave
-module _ (r : tie.After-records-good) where
-  abbrev e4 : tie.Else4
+module _ (r : tie.After-records_good) where
+  abbrev e4 : tie.Else-not-zero_from
   e4 = r.before
 
-  abbrev e3 : tie.Else3
+  abbrev e3 : tie.Else-not-faults_good
   e3 = e4.before.before
 
-  abbrev e2 : tie.Else2
+  abbrev e2 : tie.Else-not-places_good
   e2 = e3.before.before
 
-  abbrev e1 : tie.Else1
+  abbrev e1 : tie.Else-not-frame_good
   e1 = e2.before.before
 
   abbrev it : Device
   it = device e1.before.before.before
 
-  scanned : r.records-good.result ≡ records-pass it (frame e1)
-  scanned = sym (granted _ _ r.records-good.result (room it (frame e1)) r.records-good.ensures refl)
+  scanned : r.records_good.result ≡ records-pass it (frame e1)
+  scanned = sym (granted _ _ r.records_good.result (room it (frame e1)) r.records_good.ensures refl)
 
-returns-5 : tie.Need-returns-5
-returns-5 c = let r = c.before in sym (records-fail (it r) (frame (e1 r)) (sym (scanned r) ∙ not-true _ c.if5.true))
+returns-5 : tie.Need-returns-then-not-records_good
+returns-5 c = let r = c.before in sym (records-fail (it r) (frame (e1 r)) (sym (scanned r) ∙ c.if-not-records_good.true))
 
-returns-6 : tie.Need-returns-6
+returns-6 : tie.Need-returns
 unfolding config_of attachment_good own fault_good fault_place_good
 returns-6 c =
     let r = c.before.before in
     let d = it r in
     let f = frame (e1 r) in
-    let listed = granted _ _ true (guests-fit d f) (e2 r).before.places-good.ensures (not-false _ (e2 r).if2.false) in
+    let listed = granted _ _ true (guests-fit d f) (e2 r).before.places_good.ensures ((e2 r).if-not-places_good.false) in
     let places = granted _ _ true (endpoints-fit d f) refl listed in
-    let logs = granted _ _ true (endpoints-fit d f) (e3 r).before.faults-good.ensures (not-false _ (e3 r).if3.false) in
-    c.regions-good.ensures
-    ∙ decided d f (place-facts d.state places) (log_facts d.state logs) (sym (e4 r).before.zero-from.ensures ∙ not-false _ (e4 r).if4.false) (sym (scanned r) ∙ not-false _ c.before.if5.false)
+    let logs = granted _ _ true (endpoints-fit d f) (e3 r).before.faults_good.ensures ((e3 r).if-not-faults_good.false) in
+    c.regions_good.ensures
+    ∙ decided d f (place-facts d.state places) (log_facts d.state logs) (sym (e4 r).before.zero_from.ensures ∙ (e4 r).if-not-zero_from.false) (sym (scanned r) ∙ c.before.if-not-records_good.false)
 
-pub tests-pass-spec : {M : Type 1} → statement M
-tests-pass-spec =
+pub tests_pass_spec : {M : Type 1} → statement M
+tests_pass_spec =
     tie.close
     (tie.spec
     (λ c κs. tt)
