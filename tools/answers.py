@@ -19,7 +19,7 @@ TURN = {"taken": "true", "left": "false", "inv": "invariant"}
 
 
 def norm(name):
-    return name.replace("-", "_")
+    return name.replace("-", "_").lower()
 
 
 class Function:
@@ -35,6 +35,7 @@ class Function:
             self.places[old] = new
             if field[0]:
                 self.steps[norm(field[0])] = field[1]
+        self.callees = {norm(x[2][0]): entry["params"].get(x[3]) for x in entry["places"] if x[3]}
         self.arms = {}
         for arm in entry["arms"]:
             if arm:
@@ -48,6 +49,9 @@ class Function:
         for a, b in self.needs:
             if a == old or norm(a) == norm(old):
                 return b
+        for _, b in self.needs:
+            if norm(b) == norm(old):
+                return b
         return None
 
 
@@ -57,6 +61,8 @@ def chain(base, subs, aliases, f, left):
     head = []
     if base in aliases:
         kind, path = aliases[base]
+        if kind == "step" and subs[:1] != ["new"]:
+            return None
         head = path
     elif base != "c":
         return None
@@ -66,7 +72,8 @@ def chain(base, subs, aliases, f, left):
     if not parts:
         return "c"
     step, rest = parts[0], parts[1:]
-    if step in ("args", "lifetimes", "requires", "ranges", "type_inv"):
+    if step in ("args", "lifetimes", "requires", "ranges", "type_inv", "well_formed", "well-formed"):
+        step = step.replace("-", "_")
         return ".".join(["c", step] + rest)
     if step == "pre":
         return ".".join(["c", "requires"] + rest)
@@ -77,10 +84,18 @@ def chain(base, subs, aliases, f, left):
             return ".".join(["c", new] + rest[k:])
     if key in f.typed and rest[:1] == ["given"]:
         return ".".join(["c", "type_inv", f.typed[key]] + rest[1:])
+    if key in f.steps and rest[:1] == ["rest"]:
+        return ".".join(["c", f.steps[key], f.steps[key] + "-own"] + rest)
     if key in f.steps:
         if re.match(r"if\d*$|.*_test$|test\d*$", key):
             rest = [TURN.get(r, r) for r in rest]
         rest = ["invariant" if r == "inv" else r for r in rest]
+        if rest[:1] == ["new"] and f.callees.get(key):
+            k = 1
+            while rest[k : k + 1] == ["1"]:
+                k += 1
+            if rest[k : k + 1] == ["0"]:
+                rest = ["new", f.callees[key][k - 1]] + rest[k + 1 :]
         return ".".join(["c", f.steps[key]] + rest)
     left.append(base + "." + ".".join(subs))
     return None
@@ -102,22 +117,26 @@ def turn_body(text, f, left):
                 if kept.strip():
                     out.append(turn_line(kept, aliases, f, left))
                 continue
-            if bare[0] not in ("args", "pre", "requires", "ranges") and (bare[-1] == "given" or (norm(bare[0]), tuple(bare[1:])) in f.arms or any(k[0] == norm(bare[0]) and k[1] and tuple(bare[1:]) == k[1][: len(bare) - 1] for k in f.arms)):
+            if bare[0] not in ("args", "pre", "requires", "ranges", "well-formed", "well_formed") and (bare[-1] == "given" or (norm(bare[0]), tuple(bare[1:])) in f.arms or any(k[0] == norm(bare[0]) and k[1] and tuple(bare[1:]) == k[1][: len(bare) - 1] for k in f.arms)):
                 aliases[m[2]] = ("arm", bare)
                 kept = line[: line.index("let ")] + m[5].lstrip()
                 if kept.strip():
                     out.append(turn_line(kept, aliases, f, left))
                 continue
+            if len(bare) == 1 and norm(bare[0]) in f.callees:
+                aliases[m[2]] = ("step", bare)
         out.append(turn_line(line, aliases, f, left))
     return "\n".join(out)
 
 
+# A test `!b` says of b what it is, where the older kit spoke of `not b`.
 def turn_line(line, aliases, f, left):
     def path(m):
         new = chain(m[1], m[2], aliases, f, left)
         return m[0] if new is None else new
 
     line = CHAIN.sub(path, line)
+    line = re.sub(r"(?<![\w.'-])not-(?:true|false) (?:[\w.'-]+|\([^()]*\)) (c\.if-not-[\w-]+\.(?:true|false))", r"\1", line)
     for name, (kind, path_) in aliases.items():
         if kind == "place":
             line = re.sub(rf"(?<![\w.'-]){re.escape(name)}(?![\w.'-])", "c", line)
@@ -178,6 +197,39 @@ def split_args(text):
     return args
 
 
+def split_branch(text, module, uses):
+    """`⊎_elim` of a branch becomes an `elim` with a case for each arm."""
+    at = 0
+    while (at := text.find("⊎_elim", at)) >= 0:
+        k, args = at + len("⊎_elim"), []
+        while len(args) < 3:
+            while text[k].isspace():
+                k += 1
+            begin, depth = k, 0
+            while k < len(text) and (depth or not text[k].isspace() and text[k] not in ",)"):
+                depth += (text[k] in "([{") - (text[k] in ")]}")
+                k += 1
+            args.append(text[begin:k])
+        m = re.fullmatch(r"c\.if-([\w-]+)\.branch", args[2])
+        if not m:
+            return text
+        arms = []
+        for side, test, arg in (("then", "true", args[0]), ("else", "false", args[1])):
+            body = re.fullmatch(r"\(λ w\. (.*)\)", arg, re.S)
+            if not body:
+                return text
+            body = re.sub(r"\bw\.0\.(taken|left|true|false)\b", f"w.if-{m[1]}.{test}", body[1])
+            body = re.sub(r"omega \(arith, w\.if-[\w-]+\.\w+, w\.1\)", "omega arith", body)
+            arms.append(f"{side}-{m[1]} w ↦ {body}")
+        new = f"elim {args[2]} [\n      {arms[0]}\n    | {arms[1]}\n    ]"
+        text = text[:at] + new + text[k:]
+        line = f"use {module}.Goals.{{then-{m[1]}, else-{m[1]}}}"
+        if line not in uses:
+            uses.append(line)
+        at += len(new)
+    return text
+
+
 def spec_args(group):
     text = "\n".join(group)
     at = text.index("tie.spec")
@@ -214,10 +266,12 @@ def invariants(groups, f, said):
         params = lines[k].split("=")[0].split()[1:]
         body = "\n".join([lines[k].split("=", 1)[1]] + lines[k + 1 :])
         names = {}
-        firsts = [p for p in params if not p.endswith("₀")]
-        for p in params:
-            base = p.rstrip("₀")
-            names[p] = f"l.initial.{base}" if p.endswith("₀") else f"l.{base}"
+        live = [f"l.initial.{v}" if moves else f"l.{v}" for v, moves in zip(variables, changed)]
+        live += [f"l.{v}" for v, moves in zip(variables, changed) if moves]
+        if len(live) != len(params):
+            said.append(f"{name}: {len(params)} parameters for {' '.join(live)}")
+            return None
+        names = dict(zip(params, live))
         for p in sorted(names, key=len, reverse=True):
             body = re.sub(rf"(?<![\w.'-]){re.escape(p)}(?![\w'₀-]| =)", names[p], body)
         head = lines[:k]
@@ -280,7 +334,7 @@ def turn(crate, path, f, said):
             continue
         body = rename(turn_body(m[3], f, left))
         extra = m[2] or ""
-        out += [f"pub {new} : goal.{new}", f"{new} c{extra} =\n    " + body, ""]
+        out += [f"pub {new} : goal.{new}", *[x for x in spec[1] if x.startswith("unfolding ")], f"{new} c{extra} =\n    " + body, ""]
     inv = invariants(groups, f, said)
     if inv is None:
         return False
@@ -292,7 +346,8 @@ def turn(crate, path, f, said):
         write(folder + "/Invariants.antt", text)
         comment = []
     if any(x.startswith("pub ") and ": goal." in x for x in "\n".join(out).split("\n")):
-        write(folder + "/Answers.antt", comment + uses + [f"use {module}.Goals as goal", ""] + out)
+        text = split_branch("\n".join(out), module, uses)
+        write(folder + "/Answers.antt", comment + uses + [f"use {module}.Goals as goal", "", text])
     os.remove(folder + "/Proof.antt")
     if not os.listdir(folder):
         os.rmdir(folder)
@@ -324,7 +379,8 @@ def keep_form(folder, text, f, said, path):
         return "." + f.steps.get(key, m[1])
 
     text = re.sub(r"(?<=[\w)])\.([a-z][\w-]*)(?![\w-])", field, text)
-    text = text.replace(".taken", ".true").replace(".inv.", ".invariant.")
+    text = re.sub(r"\.taken(?![\w-])", ".true", text).replace(".inv.", ".invariant.")
+    text = re.sub(r"(?<![\w.'-])not-(?:true|false) (?:[\w.'-]+|\([^()]*\)) ([\w.'-]*\.if-not-[\w-]+\.(?:true|false))", r"\1", text)
     m = re.search(r"pub ([\w-]+)-spec : ", text)
     if m:
         text = text.replace(m[1] + "-spec", path.split("/")[-1] + "_spec")

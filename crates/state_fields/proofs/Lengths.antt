@@ -4,7 +4,6 @@ use mathlib.Core.List.{List}
 use mir.Val.{Val}
 use denote.Laws.{Is}
 use denote.Struct.Declared.{row}
-use borrow.Author.Rules.{length_unmapped}
 use Rattle.rules.specs.Sizes.{max_guests, max_endpoints, region_places, fault_places}
 use Rattle.rules.specs.declared.State.{State}
 use Rattle.rules.specs.contracts.State as declared-state
@@ -17,18 +16,18 @@ lengths-hold s vs h =
     let w = h.1.1.1.1 in
     let x = w.1.1 in
     record {
-      shares = length_unmapped ℕ s.settings.shares max_guests o.0.1.0.1;
-      firsts = length_unmapped ℕ s.settings.firsts max_guests o.1.0.1.0.1;
-      lasts = length_unmapped ℕ s.settings.lasts max_guests o.1.1.0.1.0.1;
-      endpoints = length_unmapped ℕ s.endpoints max_endpoints w.0.1.0.1;
-      owners = length_unmapped ℕ s.owners max_endpoints w.1.0.1.0.1;
-      attached = length_unmapped ℕ s.attached max_endpoints x.0.1.0.1;
-      domains = length_unmapped ℕ s.domains max_endpoints x.1.0.1.0.1;
-      regions = length_unmapped ℕ s.regions region_places x.1.1.0.1.0.1;
-      logged = length_unmapped ℕ s.logged max_guests x.1.1.1.1.0.1.0.1;
-      lost = length_unmapped ℕ s.lost max_guests x.1.1.1.1.1.0.1.0.1;
-      reasons = length_unmapped ℕ s.reasons fault_places x.1.1.1.1.1.1.0.1.0.1;
-      flags = length_unmapped ℕ s.flags fault_places x.1.1.1.1.1.1.1.0.1.0.1;
-      sources = length_unmapped ℕ s.sources fault_places x.1.1.1.1.1.1.1.1.0.1.0.1;
-      addresses = length_unmapped ℕ s.addresses fault_places x.1.1.1.1.1.1.1.1.1.0.1.0.1;
+      shares = o.0.1.0.1;
+      firsts = o.1.0.1.0.1;
+      lasts = o.1.1.0.1.0.1;
+      endpoints = w.0.1.0.1;
+      owners = w.1.0.1.0.1;
+      attached = x.0.1.0.1;
+      domains = x.1.0.1.0.1;
+      regions = x.1.1.0.1.0.1;
+      logged = x.1.1.1.1.0.1.0.1;
+      lost = x.1.1.1.1.1.0.1.0.1;
+      reasons = x.1.1.1.1.1.1.0.1.0.1;
+      flags = x.1.1.1.1.1.1.1.0.1.0.1;
+      sources = x.1.1.1.1.1.1.1.1.0.1.0.1;
+      addresses = x.1.1.1.1.1.1.1.1.1.0.1.0.1;
     }

@@ -20,7 +20,7 @@ pub returns : goal.returns
 unfolding good_settings
 returns c =
     let s = c.args.s in
-    let w = e.before.before.well-formed.0.1.1.1.1.1.1.1 in
+    let w = c.well_formed.0.1.1.1.1.1.1.1 in
     let i : s.input.end < 2 ^ 64 = w.0.1.1.1.0.1 in
     let d : s.domains.end < 2 ^ 32 = w.1.0.1.1.1.0.1 in
     rw (

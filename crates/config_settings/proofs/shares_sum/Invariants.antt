@@ -11,8 +11,8 @@ use Rattle.laws.specs.Lists.{sum_below}
 use Rattle.rules.specs.Configuration.{share}
 use Rattle.config_settings.proofs.Sums.{sum-empty, sum-round}
 
-abbrev pub invariant-loop-g : goal.invariant-loop-g-g
+abbrev pub invariant-loop-g : goal.invariant-loop-g
 invariant-loop-g l = (l.g ≤ l.n) × (l.n ≤ 4) × (l.sum ≤ 4294967295 * l.g) × (l.sum ≡ sum_below l.g (λ h. get_or l.shares h 0))
 
-abbrev pub decreases-loop-g : goal.decreases-loop-g-g
+abbrev pub decreases-loop-g : goal.decreases-loop-g
 decreases-loop-g l = l.n - l.g

@@ -9,9 +9,9 @@ use lib.ListN.{get_or}
 use Rattle.laws.proofs.Rounds.{Tested, tested-none, tested-next, tested-all}
 use Rattle.rules.specs.Sizes.{max_guests}
 
-abbrev pub invariant-loop-h : goal.invariant-loop-h-h
+abbrev pub invariant-loop-h : goal.invariant-loop-h
 invariant-loop-h l =
-    (l.g < max_guests) × Tested l.g (λ i. not (leb (get_or l.firsts l.g 0) (get_or l.lasts i 0) && leb (get_or l.firsts i 0) (get_or l.lasts l.g 0))) l.ok l.h
+    (l.guest < max_guests) × Tested l.guest (λ i. not (leb (get_or l.firsts l.guest 0) (get_or l.lasts i 0) && leb (get_or l.firsts i 0) (get_or l.lasts l.guest 0))) l.ok l.h
 
-abbrev pub decreases-loop-h : goal.decreases-loop-h-h
-decreases-loop-h l = l.g - l.h
+abbrev pub decreases-loop-h : goal.decreases-loop-h
+decreases-loop-h l = l.guest - l.h

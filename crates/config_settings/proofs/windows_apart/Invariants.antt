@@ -7,8 +7,8 @@ use Rattle.laws.specs.Lists.{below}
 use Rattle.laws.proofs.Rounds.{Tested, tested-none, tested-next, tested-all}
 use Rattle.rules.specs.Configuration.{share_address}
 
-abbrev pub invariant-loop-g : goal.invariant-loop-g-g
+abbrev pub invariant-loop-g : goal.invariant-loop-g
 invariant-loop-g l = Tested l.n (λ h. below h (λ i. not (share_address l.s h i))) l.ok l.g
 
-abbrev pub decreases-loop-g : goal.decreases-loop-g-g
+abbrev pub decreases-loop-g : goal.decreases-loop-g
 decreases-loop-g l = l.n - l.g

@@ -10,8 +10,8 @@ use Rattle.laws.specs.Lists.{all?}
 use Rattle.rules.specs.Sound.{zero_from}
 use Rattle.sound_zeros.proofs.Passed.{zeros-on, zeros-end}
 
-abbrev pub invariant-loop-i : goal.invariant-loop-i-i
+abbrev pub invariant-loop-i : goal.invariant-loop-i
 invariant-loop-i l = all? (eqb 0) (drop l.n l.x) ≡ (eqb l.bits 0 && all? (eqb 0) (drop l.i l.x))
 
-abbrev pub decreases-loop-i : goal.decreases-loop-i-i
+abbrev pub decreases-loop-i : goal.decreases-loop-i
 decreases-loop-i l = length l.x - l.i

@@ -21,17 +21,17 @@ use Rattle.table_search.proofs.last_up_to.Tie as tie
 abbrev passes : ℕ → ℕ → List Mapping → ℕ → Bool
 passes key address l i = up_to key address (get_or l i no_mapping)
 
-abbrev invariant-loop : tie.invariant-loop
-invariant-loop t live key address a₀ n₀ a n =
+abbrev invariant-loop-n : tie.invariant-loop-n
+invariant-loop-n t live key address a₀ n₀ a n =
     (a + n ≤ length (take live (records t)))
     × (last_up_to key address (take live (records t)) ≡ halved n (passes key address (take live (records t))) a n)
 
-abbrev decreases-loop : tie.decreases-loop
-decreases-loop t live key address a₀ n₀ a n = n
+abbrev decreases-loop-n : tie.decreases-loop-n
+decreases-loop-n t live key address a₀ n₀ a n = n
 
-loop-holds : tie.Need-loop-init invariant-loop decreases-loop
+loop-holds : tie.Need-loop-n-init invariant-loop-n decreases-loop-n
 unfolding last_up_to
-loop-holds c = (omega (arith, c.bounded.ensures.0), rw c.bounded.ensures.0)
+loop-holds c = (omega (arith, c.bounded-n.ensures.0), rw c.bounded-n.ensures.0)
 
 -- one of two places, neither of which is past the last
 module _ (a n m : ℕ) (h : a + n ≤ m) where
@@ -40,36 +40,36 @@ module _ (a n m : ℕ) (h : a + n ≤ m) where
   picked-within false = omega arith
 
 -- the words of a record of those that are left
-inside : (c : tie.In-loop invariant-loop decreases-loop) → record_words * (c.before.loop.a + c.before.loop.n / 2) + 1 < length c.before.before.before.before.args.t.now
-inside c = let b = c.before.before.bounded.ensures in omega (arith, b.0, b.2, c.before.loop.invariant.0)
+inside : (c : tie.In-loop-n invariant-loop-n decreases-loop-n) → record_words * (c.before.loop-n.a + c.before.loop-n.n / 2) + 1 < length c.before.before.before.before.args.t.now
+inside c = let b = c.before.before.bounded-n.ensures in omega (arith, b.0, b.2, c.before.loop-n.invariant.0)
 
-loop-again : tie.Need-loop-preserved invariant-loop decreases-loop
+loop-again : tie.Need-loop-n-preserved invariant-loop-n decreases-loop-n
 loop-again c =
     let u = c.before in
     let s = u.before.before.before.before in
     let a = s.before.before.before.args in
     let l = take a.live (records a.t.now) in
-    let m = s.loop.a + s.loop.n / 2 in
-    let more : 1 < s.loop.n = omega arith in
-    let within : m < length (records a.t.now) = omega (arith, length-take a.live (records a.t.now), s.loop.invariant.0) in
-    let low : m < a.live = omega (arith, length-take a.live (records a.t.now), s.loop.invariant.0) in
-    let test : u.is-up-to.result ≡ passes a.key a.address l m = u.is-up-to.ensures ∙ ap (up_to a.key a.address) (loaded-record a.t.now m within ∙ sym (get_or-take a.live (records a.t.now) m no_mapping low)) in
-    let place : c.pick.result ≡ cond (passes a.key a.address l m) m s.loop.a = c.pick.ensures ∙ rw test in (
-      rw place (picked-within s.loop.a s.loop.n (length l) s.loop.invariant.0 (passes a.key a.address l m)),
-      s.loop.invariant.1 ∙ halved-next (passes a.key a.address l) s.loop.a s.loop.n more ∙ rw place,
+    let m = s.loop-n.a + s.loop-n.n / 2 in
+    let more : 1 < s.loop-n.n = omega arith in
+    let within : m < length (records a.t.now) = omega (arith, length-take a.live (records a.t.now), s.loop-n.invariant.0) in
+    let low : m < a.live = omega (arith, length-take a.live (records a.t.now), s.loop-n.invariant.0) in
+    let test : u.is_up_to.result ≡ passes a.key a.address l m = u.is_up_to.ensures ∙ ap (up_to a.key a.address) (loaded-record a.t.now m within ∙ sym (get_or-take a.live (records a.t.now) m no_mapping low)) in
+    let place : c.pick-a.result ≡ cond (passes a.key a.address l m) m s.loop-n.a = c.pick-a.ensures ∙ rw test in (
+      rw place (picked-within s.loop-n.a s.loop-n.n (length l) s.loop-n.invariant.0 (passes a.key a.address l m)),
+      s.loop-n.invariant.1 ∙ halved-next (passes a.key a.address l) s.loop-n.a s.loop-n.n more ∙ rw place,
     )
 
-returns : tie.Need-returns invariant-loop decreases-loop
+returns : tie.Need-returns invariant-loop-n decreases-loop-n
 returns c =
     let s = c.before in
-    sym (s.loop.invariant.1 ∙ halved-last _ s.loop.a s.loop.n (omega arith))
+    sym (s.loop-n.invariant.1 ∙ halved-last _ s.loop-n.a s.loop-n.n (omega arith))
 
-pub last-up-to-spec : {M : Type 1} → statement M
-last-up-to-spec =
+pub last_up_to_spec : {M : Type 1} → statement M
+last_up_to_spec =
     tie.close
     (tie.spec
-    invariant-loop
-    decreases-loop
+    invariant-loop-n
+    decreases-loop-n
     (λ c κs. search rules)
     loop-holds
     (λ c. search rules)

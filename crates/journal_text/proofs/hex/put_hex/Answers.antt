@@ -27,7 +27,7 @@ returns-then-not-has_room c =
     let r = c.has_room in
     let a = c.args in
     let b = a.bytes.now in
-    none-placed (length (hex_line b)) a.at (hex_line b) a.out.now (room_as a.at b a.out.now ∙ sym r.ensures ∙ not-true r.result c.if-not-has_room.true)
+    none-placed (length (hex_line b)) a.at (hex_line b) a.out.now (room_as a.at b a.out.now ∙ sym r.ensures ∙ c.if-not-has_room.true)
 
 pub loop-i-init : goal.loop-i-init
 loop-i-init c =
@@ -36,7 +36,7 @@ loop-i-init c =
     let b = a.bytes.now in (
       omega arith,
       refl,
-      leb-true (a.at + (2 * length b + 1)) (length a.out.now) (sym r.ensures ∙ not-false r.result c.if-not-has_room.false),
+      leb-true (a.at + (2 * length b + 1)) (length a.out.now) (sym r.ensures ∙ c.if-not-has_room.false),
       refl,
       paste-zero a.out.now a.at (hex_line b),
     )

@@ -13,7 +13,7 @@ pub returns-then-not-has_room : goal.returns-then-not-has_room
 returns-then-not-has_room c =
     let r = c.has_room in
     let a = c.args in
-    none-placed (length a.bytes.now) a.at a.bytes.now a.out.now (sym r.ensures ∙ not-true r.result c.if-not-has_room.true)
+    none-placed (length a.bytes.now) a.at a.bytes.now a.out.now (sym r.ensures ∙ c.if-not-has_room.true)
 
 pub loop-i-init : goal.loop-i-init
 loop-i-init c =
@@ -22,7 +22,7 @@ loop-i-init c =
     let b = a.bytes.now in (
       search rules,
       search rules,
-      leb-true (a.at + length b) (length a.out.now) (sym r.ensures ∙ not-false r.result c.if-not-has_room.false),
+      leb-true (a.at + length b) (length a.out.now) (sym r.ensures ∙ c.if-not-has_room.false),
       refl,
       paste-zero a.out.now a.at b,
     )

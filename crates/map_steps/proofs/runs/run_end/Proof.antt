@@ -15,17 +15,17 @@ use Rattle.map_steps.proofs.Going.{run_at}
 use Rattle.map_steps.proofs.runs.run_end.Statement.{statement}
 use Rattle.map_steps.proofs.runs.run_end.Tie as tie
 
-abbrev invariant-loop : tie.invariant-loop
-invariant-loop t from live key end mask input first last n before₀ i₀ before i =
+abbrev invariant-loop-i : tie.invariant-loop-i
+invariant-loop-i t from live key end mask input first last n before₀ i₀ before i =
     (from ≤ i) × (i ≤ n)
     × (from + run (form_good mask input first last) key end (drop from (take live (records t))) ≡ i + run (form_good mask input first last) key before (drop i (take live (records t))))
 
-abbrev decreases-loop : tie.decreases-loop
-decreases-loop t from live key end mask input first last n before₀ i₀ before i = n - i
+abbrev decreases-loop-i : tie.decreases-loop-i
+decreases-loop-i t from live key end mask input first last n before₀ i₀ before i = n - i
 
 -- the records there are
-module _ (b : tie.After-bounded invariant-loop decreases-loop) where
-  abbrev start : tie.Start invariant-loop decreases-loop
+module _ (b : tie.After-bounded-n invariant-loop-i decreases-loop-i) where
+  abbrev start : tie.Start invariant-loop-i decreases-loop-i
   start = b.before.before
 
   abbrev good : Mapping → Bool
@@ -36,62 +36,62 @@ module _ (b : tie.After-bounded invariant-loop decreases-loop) where
   going i end = run good start.args.key end (drop i (take start.args.live (records start.args.t.now)))
 
   -- no record stands at the place or past it
-  past : (i end : ℕ) → b.bounded.result ≤ i → going i end ≡ 0
-  past i end h = ap (run good start.args.key end) (gone (records start.args.t.now) start.args.live i (rw (← b.bounded.ensures.0) h))
+  past : (i end : ℕ) → b.bounded-n.result ≤ i → going i end ≡ 0
+  past i end h = ap (run good start.args.key end) (gone (records start.args.t.now) start.args.live i (rw (← b.bounded-n.ensures.0) h))
 
 -- a record that was read
-module _ (g : tie.After-get invariant-loop decreases-loop) where
-  abbrev at : tie.At-loop invariant-loop decreases-loop
+module _ (g : tie.After-get-r invariant-loop-i decreases-loop-i) where
+  abbrev at : tie.At-loop-i invariant-loop-i decreases-loop-i
   at = g.before.before
 
-  abbrev all : tie.After-bounded invariant-loop decreases-loop
+  abbrev all : tie.After-bounded-n invariant-loop-i decreases-loop-i
   all = at.before.before
 
   abbrev it : Mapping
-  it = g.get.result
+  it = g.get-r.result
 
-  here : at.loop.i < length (take (start all).args.live (records (start all).args.t.now))
-  here = rw (← all.bounded.ensures.0) (omega arith)
+  here : at.loop-i.i < length (take (start all).args.live (records (start all).args.t.now))
+  here = rw (← all.bounded-n.ensures.0) (omega arith)
 
   -- it goes on, and so may those after it, or none does
-  step : going all at.loop.i at.loop.before ≡ cond (eqb it.key (start all).args.key && (ltb at.loop.before it.start && good all it)) (suc (going all (at.loop.i + 1) it.end)) 0
-  step = run_at (records (start all).args.t.now) (start all).args.live at.loop.i it here g.get.ensures (good all) (start all).args.key at.loop.before
+  step : going all at.loop-i.i at.loop-i.before ≡ cond (eqb it.key (start all).args.key && (ltb at.loop-i.before it.start && good all it)) (suc (going all (at.loop-i.i + 1) it.end)) 0
+  step = run_at (records (start all).args.t.now) (start all).args.live at.loop-i.i it here g.get-r.ensures (good all) (start all).args.key at.loop-i.before
 
-returns : tie.Need-returns invariant-loop decreases-loop
+returns : tie.Need-returns-then-n-from invariant-loop-i decreases-loop-i
 returns c = let a = c.before.before.before.args in omega (arith, past c.before a.from a.end (omega arith))
 
-returns-2 : tie.Need-returns-2 invariant-loop decreases-loop
+returns-2 : tie.Need-returns-then-r-key invariant-loop-i decreases-loop-i
 returns-2 c =
     let g = c.before.before in
     omega (arith, rw (ne_eqb (it g).key (start (all g)).args.key (λ e. omega arith)) at (step g))
 
-returns-3 : tie.Need-returns-3 invariant-loop decreases-loop
+returns-3 : tie.Need-returns-then-r-before invariant-loop-i decreases-loop-i
 returns-3 c =
     let g = c.before.before.before.before in
-    omega (arith, rw (le-ltb (at g).loop.before (it g).start (omega arith), and-false) at (step g))
+    omega (arith, rw (le-ltb (at g).loop-i.before (it g).start (omega arith), and-false) at (step g))
 
-returns-4 : tie.Need-returns-4 invariant-loop decreases-loop
+returns-4 : tie.Need-returns-then-not-form_good invariant-loop-i decreases-loop-i
 returns-4 c =
     let g = c.before.before.before.before.before.before in
-    let f : good (all g) (it g) ≡ false = sym c.before.form-good.ensures ∙ not-true _ c.if4.true in
+    let f : good (all g) (it g) ≡ false = sym c.before.form_good.ensures ∙ c.if-not-form_good.true in
     omega (arith, rw (f, and-false, and-false) at (step g))
 
-loop-again : tie.Need-loop-preserved invariant-loop decreases-loop
+loop-again : tie.Need-loop-i-preserved invariant-loop-i decreases-loop-i
 loop-again c =
     let g = c.before.before.before.before.before.before in
-    let f : good (all g) (it g) ≡ true = sym c.before.form-good.ensures ∙ not-false _ c.if4.false in
-    let z = rw (eq-eqb (it g).key (start (all g)).args.key (omega arith), lt-ltb (at g).loop.before (it g).start (omega arith), f) at (step g) in
+    let f : good (all g) (it g) ≡ true = sym c.before.form_good.ensures ∙ c.if-not-form_good.false in
+    let z = rw (eq-eqb (it g).key (start (all g)).args.key (omega arith), lt-ltb (at g).loop-i.before (it g).start (omega arith), f) at (step g) in
     (omega arith, omega arith, omega arith)
 
-returns-5 : tie.Need-returns-5 invariant-loop decreases-loop
-returns-5 c = let s = c.before in omega (arith, past s.before.before s.loop.i s.loop.before (omega arith))
+returns-5 : tie.Need-returns invariant-loop-i decreases-loop-i
+returns-5 c = let s = c.before in omega (arith, past s.before.before s.loop-i.i s.loop-i.before (omega arith))
 
-pub run-end-spec : {M : Type 1} → statement M
-run-end-spec =
+pub run_end_spec : {M : Type 1} → statement M
+run_end_spec =
     tie.close
     (tie.spec
-    invariant-loop
-    decreases-loop
+    invariant-loop-i
+    decreases-loop-i
     (λ c κs. tt)
     returns
     (λ c. (omega arith, omega arith, refl)) (λ c κs. tt)

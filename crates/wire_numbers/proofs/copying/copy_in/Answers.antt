@@ -1,14 +1,14 @@
 use Prim.Native.Nat.{◌≤◌, ◌-◌, min}
 use mathlib.Core.Path.{◌≡◌, refl, ◌∙◌}
-use mathlib.Core.Logic.{⊎_elim}
 use native.Mathlib.Omega.{arith}
 use borrow.Author.Rules.{rules}
 use lib.ListN.{length, length-set}
 use Rattle.wire_numbers.proofs.Laws.{copied, copied_next, copied_all}
 use Rattle.wire_numbers.proofs.copying.copy_in.Goals as goal
+use Rattle.wire_numbers.proofs.copying.copy_in.Goals.{then-bytes-out, else-bytes-out}
 
 pub loop-i-init : goal.loop-i-init
-loop-i-init c = (omega arith, ⊎_elim (λ w. omega (arith, w.0.taken, w.1)) (λ w. omega (arith, w.0.left, w.1)) c.if-bytes-out.branch, refl, refl)
+loop-i-init c = (omega arith, elim c.if-bytes-out.branch [ then-bytes-out w ↦ omega arith | else-bytes-out w ↦ omega arith ], refl, refl)
 
 pub loop-i-preserved : goal.loop-i-preserved
 loop-i-preserved c =

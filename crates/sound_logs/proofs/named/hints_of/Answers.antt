@@ -1,0 +1,13 @@
+use native.Mathlib.Omega.{arith}
+use borrow.Author.Rules.{rules}
+use Prim.Native.Nat.{◌≤◌, ◌-◌}
+use Rattle.rules.specs.Sizes.{max_endpoints}
+use Rattle.sound_logs.proofs.named.hints_of.Goals as goal
+
+pub loop-j-init : goal.loop-j-init
+loop-j-init c =
+    omega arith
+
+pub loop-j-preserved : goal.loop-j-preserved
+loop-j-preserved c =
+    omega arith

@@ -1,0 +1,13 @@
+use Rattle.sound_places.proofs.endpoints.endpoints_good.Given as goal
+use native.Mathlib.Omega.{arith}
+use borrow.Author.Rules.{rules}
+use Prim.Native.Nat.{◌-◌}
+use Rattle.laws.proofs.Rounds.{Tested, tested-none, tested-next, tested-all}
+use Rattle.rules.specs.Sizes.{max_endpoints}
+use Rattle.sound_places.specs.Places.{endpoint_place}
+
+abbrev pub invariant-loop-i : goal.invariant-loop-i
+invariant-loop-i l = Tested max_endpoints (endpoint_place l.range l.n l.endpoints l.owners l.attached l.domains) l.ok l.i
+
+abbrev pub decreases-loop-i : goal.decreases-loop-i
+decreases-loop-i l = max_endpoints - l.i
