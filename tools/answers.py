@@ -15,6 +15,8 @@ import sys
 CHAIN = re.compile(r"(?<![\w.'-])([^\W\d][\w'₀-₉]*(?:-\w+)*)((?:\.[A-Za-z0-9_'-]+)+)")
 PLACE = re.compile(r"tie\.(After|At|Else|In|Start|Then|Joined)[\w-]*")
 PLAIN = re.compile(r"\(?λ c( κs)?\. (search rules|tt)\)?$")
+# Fields of the state's own types, which a step may be named as.
+FIELDS = {"input", "settings", "domains", "endpoints", "owners", "attached", "regions", "state", "device", "live"}
 TURN = {"taken": "true", "left": "false", "inv": "invariant"}
 
 
@@ -49,8 +51,8 @@ class Function:
         for a, b in self.needs:
             if a == old or norm(a) == norm(old):
                 return b
-        for _, b in self.needs:
-            if norm(b) == norm(old):
+        for a, b in self.needs:
+            if norm(b) == norm(old) or re.sub(r"^(overflow|nonzero|bounds)_", "", norm(old)) == norm(a):
                 return b
         return None
 
@@ -376,7 +378,9 @@ def keep_form(folder, text, f, said, path):
 
     def field(m):
         key = norm(m[1])
-        return "." + f.steps.get(key, m[1])
+        if key == "pre":
+            return ".requires"
+        return "." + (f.steps.get(key, m[1]) if key not in FIELDS else m[1])
 
     text = re.sub(r"(?<=[\w)])\.([a-z][\w-]*)(?![\w-])", field, text)
     text = re.sub(r"\.taken(?![\w-])", ".true", text).replace(".inv.", ".invariant.")
