@@ -1,4 +1,4 @@
-//! Links the archive that `rt staticlib` wrote, named by the environment variable VIOMMU_ARCHIVE.
+//! Links the archive that `rt lib` wrote, named by the environment variable VIOMMU_ARCHIVE.
 
 use std::env;
 use std::path::PathBuf;

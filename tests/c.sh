@@ -3,23 +3,17 @@
 # against both and runs them. The first failure ends it.
 set -euo pipefail
 
-# The crates whose archives have the entries for C.
-crates=(viommu)
-
 cd "$(dirname "${BASH_SOURCE[0]}")/.."
+source tests/build.bash
 out=target/c
 mkdir -p "$out"
-archives=()
-for crate in "${crates[@]}"; do
-  rt staticlib "$crate" >"$out/$crate.log" 2>&1 || { cat "$out/$crate.log"; exit 1; }
-  archives+=("target/staticlib/lib$crate.a")
-done
+build_archive >"$out/archive.log" 2>&1 || { cat "$out/archive.log"; exit 1; }
 
 # Every function that the header declares is in the archive, and the archive needs nothing but C's own copying and filling.
 entries=(readable_length writable_length set_up request access reset fetch held lost)
-symbols=$(nm "${archives[@]}")
+symbols=$(nm "$archive")
 for entry in "${entries[@]}"; do
-  grep -q " T viommu_$entry\$" <<<"$symbols" || { echo "no viommu_$entry in ${archives[*]}"; exit 1; }
+  grep -q " T viommu_$entry\$" <<<"$symbols" || { echo "no viommu_$entry in $archive"; exit 1; }
 done
 needed=$(awk '$1 == "U" && $2 !~ /^(memcpy|memset|memmove|memcmp)$/ { print $2 }' <<<"$symbols")
 [ -z "$needed" ] || { echo "the archive needs: $needed"; exit 1; }
@@ -40,7 +34,7 @@ build() {
   shift
   while [ "$1" != -- ]; do flags+=("$1"); shift; done
   shift
-  gcc -std=c11 -O2 -Wall -Wextra -Werror "${flags[@]}" -Iinclude "${@/#/tests/c/}" "${archives[@]}" -o "$out/$program"
+  gcc -std=c11 -O2 -Wall -Wextra -Werror "${flags[@]}" -Iinclude "${@/#/tests/c/}" "$archive" -o "$out/$program"
 }
 
 build lengths -- lengths.c

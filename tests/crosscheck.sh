@@ -3,7 +3,8 @@
 # line, on seeded journals, and in pairs of journals the lines of the one guest whose calls are the same in both.
 set -eu
 cd "$(dirname "${BASH_SOURCE[0]}")/.."
+source tests/build.bash
 export CARGO_NET_OFFLINE=true
-[ -x target/bin/replay ] || rt check replay
+have_program
 (cd crosscheck && cargo test --release --locked --quiet && cargo build --release --locked --quiet)
-crosscheck/target/release/crosscheck target/bin/replay 1 3000
+crosscheck/target/release/crosscheck "$replay" 1 3000

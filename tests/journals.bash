@@ -3,12 +3,13 @@
 # NAME.journal is in hex, a record to a line, `#` comments; NAME.lines is what has to be printed. Where a file holds several
 # journals, a line `== TITLE` stands before each of them, in both files alike.
 #
-# To be read by a script with the program as its first argument, or none for target/bin/replay.
+# To be read by a script with the program as its first argument, or none for the one of this repository (tests/build.bash).
 program=${1:+$(realpath "$1")}
 cd "$(dirname "${BASH_SOURCE[0]}")/.."
+source tests/build.bash
 if [ -z "$program" ]; then
-  program=$PWD/target/bin/replay
-  [ -x "$program" ] || rt check replay </dev/null >&2
+  have_program
+  program=$replay
 fi
 work=$(mktemp -d)
 trap 'rm -rf "$work"' EXIT

@@ -1,7 +1,7 @@
 #!/usr/bin/env bash
 # The journal program against journals worked out by hand from document 01: each is fed whole and byte by byte, and every
 # byte that the program prints is compared. Then a long journal has to be read in little memory.
-# The program is target/bin/replay, or the first argument.
+# The program is crates/replay, or the first argument.
 #
 # tests/journals.bash says how journals are written down.
 set -eu

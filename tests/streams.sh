@@ -1,19 +1,26 @@
 #!/usr/bin/env bash
 # The journal program's reading and writing, of which nothing is proved: very many reads of one byte each, reads that fail, and
-# writes that fail (docs/DECISIONS.md, 23). No test waits for a time to pass.
-# The program is target/bin/replay, or the first argument. tests/journals.bash says how journals are written down.
+# writes that fail (docs/DECISIONS.md, 23). Where one fails, the program may end with any status, but not by a signal, and may say so on
+# standard error; what it prints is compared. No test waits for a time to pass.
+# The program is crates/replay, or the first argument. tests/journals.bash says how journals are written down.
 set -eu
 source "$(dirname "${BASH_SOURCE[0]}")/journals.bash"
 feed=$work/feed
 gcc -std=c11 -O2 -Wall -Wextra -Werror tests/c/feed.c -o "$feed"
 put_parts tests/long
 
+# see LABEL: ends the script with what the command has said on standard error.
+see() {
+  cat "$work/said" >&2
+  fail "$1: see above"
+}
+
 # check LABEL ASKED COMMAND..: the command succeeds and prints what the file ASKED holds.
 check() {
   local label=$1
   cat "$2" >"$work/asked"
   shift 2
-  "$@" >"$work/printed" || fail "$label: see above"
+  "$@" >"$work/printed" 2>"$work/said" || see "$label"
   compare "$label" 0
 }
 
@@ -38,7 +45,7 @@ done
 
 # beginning LABEL FIRST SECOND: where long writes fail and short ones do not, no line follows a missing one.
 beginning() {
-  "$feed" short "$program" "$2" "$3" >"$work/printed" || fail "$1: see above"
+  "$feed" short "$program" "$2" "$3" >"$work/printed" 2>"$work/said" || see "$1"
   head -c "$(wc -c <"$work/printed")" "$work/asked" | cmp -s - "$work/printed" ||
     fail "$1: what was printed does not begin the lines asked for: $(head -c 100 "$work/printed")"
 }
