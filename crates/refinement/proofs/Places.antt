@@ -91,7 +91,9 @@ listed-owned e g (k ∷ es) (o ∷ os) m p = go (eqb k e.0) refl (eqb o g.0) ref
     absent (n ∷ l) (o ∷ xs) h x = mid (eqb o g.0) (absent l xs (both_right (not (eqb k n)) _ h) x)
       where
         mid : (c : Bool) → any? (eqb e.0) (pick_by g.0 xs l) ≡ false → any? (eqb e.0) (cond c (n ∷ pick_by g.0 xs l) (pick_by g.0 xs l)) ≡ false
-        mid true i = rw (sym (eqb-true k e.0 x), not-true (eqb k n) (both_left (not (eqb k n)) _ h)) (rw (eqb-true k e.0 x) i)
+        mid true i =
+            let z : eqb e.0 n ≡ false = rw (sym (eqb-true k e.0 x)) (not-true (eqb k n) (both_left (not (eqb k n)) _ h)) in
+            rw z i
         mid false i = i
 
     step_record : eqb e.0 k ≡ eqb k e.0
