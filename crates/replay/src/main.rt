@@ -1,7 +1,7 @@
 // Replays a journal from standard input and prints its lines: reads, lets `crates/journal_blocks` advance, writes.
 #![tactic(auto)]
 
-ghost use Rattle.std.specs.Prelude.{◌≤◌, length};
+ghost use Rattle.std.specs.Prelude.{◌≡◌, ◌≤◌, length, take};
 
 use journal_blocks::Progress;
 use rules::sizes::TABLE_WORDS;
@@ -21,7 +21,7 @@ struct Round {
 
 // A number of bytes, at most all of a buffer's.
 fn within(n: usize, buffer: &[u8]) -> usize
-    ensures { result ≤ length buffer.now }
+    ensures { (result ≤ length buffer.now) × (result ≡ length (take result buffer.now)) }
 {
     if n < buffer.len() { n } else { buffer.len() }
 }
@@ -43,8 +43,23 @@ fn read_more(mut from: Stdin, wants: bool, block: &mut [u8], held: usize) -> io:
     from.read(&mut block[held..])
 }
 
-// One round: reads where bytes are wanted, works, and writes what that put. Where reading fails, nothing is printed; where lines
-// can't be written, none may follow.
+// Advances, and writes what that put. Where lines can't be written, none may follow.
+fn work(
+    to: Stdout,
+    p: Progress,
+    table: &mut [u64],
+    block: &mut [u8],
+    out: &mut [u8],
+    got: usize,
+) -> io::Result<Round> {
+    let x = journal_blocks::advance(p, table, block, out, got);
+    print(to, out, x.printed)?;
+    let done = x.finished;
+    let progress = x.progress;
+    Ok(Round { progress, done })
+}
+
+// One round: reads where bytes are wanted, and works. Where reading fails, nothing is printed.
 fn go_on(
     from: Stdin,
     to: Stdout,
@@ -54,11 +69,7 @@ fn go_on(
     out: &mut [u8],
 ) -> io::Result<Round> {
     let got = read_more(from, p.wants, block, p.held)?;
-    let x = journal_blocks::advance(p, table, block, out, got);
-    print(to, out, x.printed)?;
-    let done = x.finished;
-    let progress = x.progress;
-    Ok(Round { progress, done })
+    work(to, p, table, block, out, got)
 }
 
 // Works the journal to its end. A proved loop has to end, so it counts to a number that no journal uses up.

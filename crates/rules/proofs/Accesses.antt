@@ -30,7 +30,7 @@ use Rattle.rules.specs.Access.{has_flag, permits, blocked, translated, find_mapp
 use Rattle.rules.specs.Sound.{sound, record_good, in_range}
 use Rattle.rules.specs.Device.{access_by, Reply, rule, caller, owns, step}
 use Rattle.rules.specs.Claims.{Permitting, attached_to, GoesTo}
-use Rattle.rules.proofs.Records.{mine, key-guest}
+use Rattle.rules.proofs.Records.{key-guest}
 use Rattle.rules.proofs.Parts.{record-form}
 use Rattle.rules.proofs.Chains.{outside_high, formed}
 use Rattle.rules.proofs.Groups.{good-facts, Facts}

@@ -16,7 +16,7 @@ use Rattle.laws.proofs.Owners.{all-owners, length-pick_by}
 use Rattle.rules.specs.declared.State.{State}
 use Rattle.rules.specs.declared.Fault.{Fault}
 use Rattle.rules.specs.Sizes.{max_faults, max_lost, fault_places}
-use Rattle.rules.specs.Configuration.{Config, share}
+use Rattle.rules.specs.Configuration.{Config}
 use Rattle.rules.specs.Table.{before, apart}
 use Rattle.rules.specs.State.{Attachment, Log, Device, no_fault, config_of, attachment, attachment_at, fault_at, log_at, read}
 use Rattle.rules.specs.Guests.{own, part}

@@ -11,7 +11,6 @@ use borrow.Author.Tests.{ltb-true, ltb-false, lt-ltb, le-ltb, leb-true}
 use Rattle.laws.specs.Lists.{every?, tab}
 use Rattle.laws.proofs.Tests.{both_left, opened}
 use Rattle.laws.proofs.Tables.{length-tab, get_d-tab, tab-is, tab-same}
-use Rattle.rules.specs.declared.Region.{Region}
 use Rattle.rules.specs.Sizes.{max_endpoints, max_regions, region_words, endpoint_region_words, region_places}
 use Rattle.rules.specs.Configuration.{region_count, region_word, region_at, regions_at, endpoint_regions, used_words, region_used, region_tests}
 use Rattle.rules.specs.State.{trimmed_regions}

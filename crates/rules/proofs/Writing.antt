@@ -1,5 +1,5 @@
 -- What is written into state and table is read back, and is sound.
-use Prim.Native.Nat.{ℕ, ◌+◌, ◌-◌, ◌*◌, ◌/◌, ◌%◌, ◌≤◌, ◌<◌}
+use Prim.Native.Nat.{ℕ, ◌+◌, ◌*◌, ◌/◌, ◌%◌, ◌≤◌, ◌<◌}
 use mathlib.Core.Path.{◌≡◌, refl, sym, ◌∙◌}
 use mathlib.Core.List.{List}
 use mathlib.Core.Option.{some, none}
@@ -10,7 +10,6 @@ use Rattle.laws.specs.Lists.{tab, pad}
 use Rattle.laws.proofs.Tables.{length-tab, get_d-tab, tab-is}
 use Rattle.rules.specs.Sizes.{max_guests, max_endpoints, endpoint_region_words, max_faults, max_lost, fault_places}
 use Rattle.rules.specs.Configuration.{Config}
-use Rattle.rules.specs.Table.{records}
 use Rattle.rules.specs.State.{Attachment, World, no_fault, no_log, config_of, attachment, fault_at, log_at, read, trimmed, trimmed_regions, flag_of, number_of, log_of, fault_placed, state_of, write}
 use Rattle.rules.specs.Guests.{part}
 use Rattle.rules.specs.Sound.{guest}

@@ -4,9 +4,8 @@ use mathlib.Core.List as L
 use Rattle.std.specs.Int.Count.{count_trailing_zeros}
 use Rattle.laws.specs.Lists.{below, sum_below, tab_from}
 use Rattle.laws.specs.Bytes.{le_bytes}
-use Rattle.laws.specs.Runs.{after, given, every}
-use Rattle.rules.specs.declared.Mapping.{Mapping}
-use Rattle.rules.specs.Sizes.{region_words, max_regions, table_words}
+use Rattle.laws.specs.Runs.{given, every}
+use Rattle.rules.specs.Sizes.{table_words}
 use Rattle.rules.specs.Answers.{number}
 use Rattle.rules.specs.Configuration.{Config, regions_at, region_used, good_settings, good_lists, good_regions, good}
 use Rattle.rules.specs.Table.{table_of, before, overlap}

@@ -1,10 +1,8 @@
 -- The lengths of a state's arrays.
-use Prim.Native.Nat.{ℕ}
 use mathlib.Core.List.{List}
 use mir.Val.{Val}
 use denote.Laws.{Is}
 use denote.Struct.Declared.{row}
-use Rattle.rules.specs.Sizes.{max_guests, max_endpoints, region_places, fault_places}
 use Rattle.rules.specs.declared.State.{State}
 use Rattle.rules.specs.contracts.State as declared-state
 use Rattle.rules.specs.State.{Lengths}

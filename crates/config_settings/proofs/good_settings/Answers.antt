@@ -1,4 +1,3 @@
-use borrow.Author.Rules.{rules}
 use borrow.Author.Tests.{lt-leb, le-leb, lt-ltb}
 use Prim.Native.Nat.{◌<◌, ◌^◌}
 use mathlib.Core.Bool.{and-true}

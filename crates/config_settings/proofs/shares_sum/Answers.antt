@@ -1,11 +1,8 @@
 use native.Mathlib.Omega.{arith}
 use borrow.Author.Rules.{rules}
-use Prim.Native.Nat.{◌≤◌, ◌*◌, ◌-◌}
 use mathlib.Core.Path.{◌≡◌, sym}
-use lib.ListN.{get_or}
 use mir.Syntax.{w32}
 use mir.Val.{Fits}
-use Rattle.laws.specs.Lists.{sum_below}
 use Rattle.rules.specs.Configuration.{share}
 use Rattle.config_settings.proofs.Sums.{sum-empty, sum-round}
 use Rattle.config_settings.proofs.shares_sum.Goals as goal

@@ -1,12 +1,6 @@
 use native.Mathlib.Omega.{arith}
-use borrow.Author.Rules.{rules}
-use Prim.Native.Nat.{◌<◌, ◌-◌}
 use mathlib.Core.Path.{refl}
-use mathlib.Core.Bool.{not, ◌&&◌}
-use lib.Dec.{leb}
-use lib.ListN.{get_or}
-use Rattle.laws.proofs.Rounds.{Tested, tested-none, tested-next, tested-all}
-use Rattle.rules.specs.Sizes.{max_guests}
+use Rattle.laws.proofs.Rounds.{tested-none, tested-next, tested-all}
 use Rattle.config_settings.proofs.window_apart.Goals as goal
 
 pub loop-h-preserved : goal.loop-h-preserved

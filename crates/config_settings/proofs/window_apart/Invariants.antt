@@ -1,12 +1,9 @@
 use Rattle.config_settings.proofs.window_apart.Given as goal
-use native.Mathlib.Omega.{arith}
-use borrow.Author.Rules.{rules}
 use Prim.Native.Nat.{◌<◌, ◌-◌}
-use mathlib.Core.Path.{refl}
 use mathlib.Core.Bool.{not, ◌&&◌}
 use lib.Dec.{leb}
 use lib.ListN.{get_or}
-use Rattle.laws.proofs.Rounds.{Tested, tested-none, tested-next, tested-all}
+use Rattle.laws.proofs.Rounds.{Tested}
 use Rattle.rules.specs.Sizes.{max_guests}
 
 abbrev pub invariant-loop-h : goal.invariant-loop-h

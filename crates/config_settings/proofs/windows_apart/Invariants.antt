@@ -1,10 +1,8 @@
 use Rattle.config_settings.proofs.windows_apart.Given as goal
-use native.Mathlib.Omega.{arith}
-use borrow.Author.Rules.{rules}
 use Prim.Native.Nat.{◌-◌}
 use mathlib.Core.Bool.{not}
 use Rattle.laws.specs.Lists.{below}
-use Rattle.laws.proofs.Rounds.{Tested, tested-none, tested-next, tested-all}
+use Rattle.laws.proofs.Rounds.{Tested}
 use Rattle.rules.specs.Configuration.{share_address}
 
 abbrev pub invariant-loop-g : goal.invariant-loop-g

@@ -1,6 +1,5 @@
 use mathlib.Core.Path.{◌∙◌}
 use native.Mathlib.Omega.{arith}
-use borrow.Author.Rules.{rules}
 use Rattle.journal_records.proofs.Fields.{front-none, front-unknown, front_cut, front-whole}
 use Rattle.journal_records.proofs.front.Goals as goal
 

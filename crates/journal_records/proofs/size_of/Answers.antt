@@ -1,7 +1,6 @@
 use mathlib.Core.Path.{sym}
 use native.Mathlib.Numerals.{add-one}
 use native.Mathlib.Omega.{arith}
-use borrow.Author.Rules.{rules}
 use Rattle.journal_records.proofs.Fields.{size_none}
 use Rattle.journal_records.proofs.size_of.Goals as goal
 

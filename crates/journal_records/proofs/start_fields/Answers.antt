@@ -1,5 +1,4 @@
 use native.Mathlib.Omega.{arith}
-use borrow.Author.Rules.{rules}
 use Rattle.journal_records.proofs.Fields.{field-there}
 use Rattle.journal_records.proofs.start_fields.Goals as goal
 

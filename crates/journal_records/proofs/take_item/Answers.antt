@@ -1,5 +1,4 @@
 use native.Mathlib.Omega.{arith}
-use borrow.Author.Rules.{rules}
 use borrow.Author.Tests.{ne_eqb}
 use Rattle.journal_records.specs.Items.{item_of, body_length}
 use Rattle.journal_records.proofs.Fields.{sized}

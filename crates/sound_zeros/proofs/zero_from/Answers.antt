@@ -1,11 +1,5 @@
 use native.Mathlib.Omega.{arith}
-use borrow.Author.Rules.{rules}
-use Prim.Native.Nat.{◌-◌}
-use mathlib.Core.Path.{◌≡◌, refl, sym, ◌∙◌}
-use mathlib.Core.Bool.{◌&&◌}
-use lib.Dec.{eqb}
-use lib.ListN.{length, drop}
-use Rattle.laws.specs.Lists.{all?}
+use mathlib.Core.Path.{refl, sym, ◌∙◌}
 use Rattle.rules.specs.Sound.{zero_from}
 use Rattle.sound_zeros.proofs.Passed.{zeros-on, zeros-end}
 use Rattle.sound_zeros.proofs.zero_from.Goals as goal

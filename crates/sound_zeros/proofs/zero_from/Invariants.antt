@@ -1,14 +1,10 @@
 use Rattle.sound_zeros.proofs.zero_from.Given as goal
-use native.Mathlib.Omega.{arith}
-use borrow.Author.Rules.{rules}
 use Prim.Native.Nat.{◌-◌}
-use mathlib.Core.Path.{◌≡◌, refl, sym, ◌∙◌}
+use mathlib.Core.Path.{◌≡◌}
 use mathlib.Core.Bool.{◌&&◌}
 use lib.Dec.{eqb}
 use lib.ListN.{length, drop}
 use Rattle.laws.specs.Lists.{all?}
-use Rattle.rules.specs.Sound.{zero_from}
-use Rattle.sound_zeros.proofs.Passed.{zeros-on, zeros-end}
 
 abbrev pub invariant-loop-i : goal.invariant-loop-i
 invariant-loop-i l = all? (eqb 0) (drop l.n l.x) ≡ (eqb l.bits 0 && all? (eqb 0) (drop l.i l.x))

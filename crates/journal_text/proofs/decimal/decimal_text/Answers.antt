@@ -1,10 +1,9 @@
-use Prim.Native.Nat.{◌+◌, ◌-◌, ◌^◌, ◌<◌}
+use Prim.Native.Nat.{◌+◌, ◌-◌}
 use mathlib.Core.Path.{◌≡◌, refl, ◌∙◌}
-use mathlib.Core.List.{[], ◌∷◌, ◌++◌, append_assoc}
+use mathlib.Core.List.{append_assoc}
 use native.Mathlib.Omega.{arith}
 use borrow.Author.Rules.{rules}
-use lib.ListN.{length, drop, length-set}
-use Rattle.journal_text.specs.Text.{decimal}
+use lib.ListN.{length-set}
 use Rattle.journal_text.proofs.Numbers.{decimal-one, decimal-more, tenth}
 use Rattle.journal_text.proofs.Places.{drop-set}
 use Rattle.journal_text.proofs.decimal.decimal_text.Goals as goal

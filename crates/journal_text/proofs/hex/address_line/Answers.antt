@@ -1,10 +1,10 @@
-use Prim.Native.Nat.{◌+◌, ◌-◌, ◌≤◌}
+use Prim.Native.Nat.{◌+◌, ◌-◌}
 use mathlib.Core.Path.{◌≡◌, refl, sym, ◌∙◌}
-use mathlib.Core.List.{[], ◌∷◌, ◌++◌, append_assoc}
+use mathlib.Core.List.{append_assoc}
 use native.Mathlib.Omega.{arith}
 use borrow.Author.Rules.{rules}
-use lib.ListN.{length, drop, length-set}
-use Rattle.journal_text.specs.Text.{newline, address, hex_digits}
+use lib.ListN.{length-set}
+use Rattle.journal_text.specs.Text.{address}
 use Rattle.journal_text.proofs.Numbers.{hex_digits-next}
 use Rattle.journal_text.proofs.Places.{drop-set}
 use Rattle.journal_text.proofs.hex.address_line.Goals as goal

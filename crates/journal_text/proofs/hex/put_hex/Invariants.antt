@@ -1,17 +1,10 @@
 -- The loop's invariant: there is the room, and out is its old self with the digits of the first i bytes copied in.
 use Rattle.journal_text.proofs.hex.put_hex.Given as goal
-use Prim.Native.Nat.{ℕ, suc, ◌+◌, ◌-◌, ◌*◌, ◌≤◌}
-use mathlib.Core.Path.{◌≡◌, refl, sym, ◌∙◌}
-use native.Mathlib.Omega.{arith}
-use borrow.Author.Rules.{rules}
-use borrow.Author.Tests.{not-true, not-false, leb-true, le-leb, lt-leb}
-use mathlib.Core.List.{List}
-use lib.Dec.{leb}
-use lib.ListN.{length, length-set}
-use lib.Seq.{paste, paste-zero, paste-suc}
+use Prim.Native.Nat.{◌+◌, ◌-◌, ◌*◌, ◌≤◌}
+use mathlib.Core.Path.{◌≡◌}
+use lib.ListN.{length}
+use lib.Seq.{paste}
 use Rattle.journal_text.specs.Text.{hex_line}
-use Rattle.journal_text.proofs.Numbers.{hex_line-length, hex_line-byte, hex_line-end}
-use Rattle.journal_text.proofs.Places.{placed-paste, room-placed, none-placed}
 
 abbrev pub invariant-loop-i : goal.invariant-loop-i
 invariant-loop-i l =

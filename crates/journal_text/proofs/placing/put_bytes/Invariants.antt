@@ -1,14 +1,9 @@
 -- The loop's invariant: there is the room, and out is its old self with the first i bytes copied in.
 use Rattle.journal_text.proofs.placing.put_bytes.Given as goal
 use Prim.Native.Nat.{◌+◌, ◌≤◌, ◌-◌}
-use mathlib.Core.Path.{◌≡◌, refl, sym, ◌∙◌}
-use native.Mathlib.Numerals.{add-one}
-use native.Mathlib.Omega.{arith}
-use borrow.Author.Rules.{rules}
-use borrow.Author.Tests.{not-true, not-false, leb-true, le-leb}
-use lib.ListN.{length, length-set}
-use lib.Seq.{paste, paste-zero, paste-suc}
-use Rattle.journal_text.proofs.Places.{placed-paste, room-placed, none-placed}
+use mathlib.Core.Path.{◌≡◌}
+use lib.ListN.{length}
+use lib.Seq.{paste}
 
 abbrev pub invariant-loop-i : goal.invariant-loop-i
 invariant-loop-i l =

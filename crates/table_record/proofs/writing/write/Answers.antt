@@ -1,5 +1,4 @@
 use native.Mathlib.Omega.{arith}
-use borrow.Author.Rules.{rules}
 use mathlib.Core.Path.{◌∙◌}
 use Rattle.rules.proofs.Words.{length-records}
 use Rattle.table_record.proofs.Stored.{stored-record, stored_past}

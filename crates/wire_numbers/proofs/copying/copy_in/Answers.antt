@@ -1,9 +1,8 @@
-use Prim.Native.Nat.{◌≤◌, ◌-◌, min}
+use Prim.Native.Nat.{min}
 use mathlib.Core.Path.{◌≡◌, refl, ◌∙◌}
 use native.Mathlib.Omega.{arith}
-use borrow.Author.Rules.{rules}
 use lib.ListN.{length, length-set}
-use Rattle.wire_numbers.proofs.Laws.{copied, copied_next, copied_all}
+use Rattle.wire_numbers.proofs.Laws.{copied_next, copied_all}
 use Rattle.wire_numbers.proofs.copying.copy_in.Goals as goal
 use Rattle.wire_numbers.proofs.copying.copy_in.Goals.{then-bytes-out, else-bytes-out}
 

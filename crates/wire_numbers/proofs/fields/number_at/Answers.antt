@@ -1,8 +1,7 @@
-use Prim.Native.Nat.{◌+◌, ◌-◌, ◌^◌, ◌<◌, ◌≤◌}
+use Prim.Native.Nat.{◌+◌, ◌-◌, ◌<◌}
 use mathlib.Core.Path.{◌≡◌}
 use native.Mathlib.Omega.{arith}
 use borrow.Author.Rules.{rules}
-use Rattle.laws.specs.Bytes.{le_field}
 use Rattle.wire_numbers.proofs.Laws.{field_next, below_next, below-fits}
 use Rattle.wire_numbers.proofs.fields.number_at.Goals as goal
 

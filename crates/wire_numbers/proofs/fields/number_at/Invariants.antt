@@ -2,10 +2,7 @@
 use Rattle.wire_numbers.proofs.fields.number_at.Given as goal
 use Prim.Native.Nat.{◌+◌, ◌-◌, ◌^◌, ◌<◌, ◌≤◌}
 use mathlib.Core.Path.{◌≡◌}
-use native.Mathlib.Omega.{arith}
-use borrow.Author.Rules.{rules}
 use Rattle.laws.specs.Bytes.{le_field}
-use Rattle.wire_numbers.proofs.Laws.{field_next, below_next, below-fits}
 
 abbrev pub invariant-loop-left : goal.invariant-loop-left
 invariant-loop-left l = (l.left ≤ l.n) × (l.x ≡ le_field (l.k + l.left) (l.n - l.left) l.bytes) × (l.x < 256 ^ (l.n - l.left))

@@ -1,11 +1,8 @@
-use Prim.Native.Nat.{◌+◌, ◌-◌, ◌≤◌}
+use Prim.Native.Nat.{◌+◌, ◌-◌}
 use mathlib.Core.Path.{◌≡◌, refl, sym, ◌∙◌}
-use mathlib.Core.List.{◌++◌}
 use native.Mathlib.Omega.{arith}
-use borrow.Author.Rules.{rules}
-use lib.ListN.{length, take, drop, length-set, take-append-drop}
+use lib.ListN.{drop, length-set, take-append-drop}
 use lib.Seq.{drop-set-lt}
-use Rattle.laws.specs.Bytes.{le_bytes}
 use Rattle.wire_numbers.proofs.Laws.{put_next}
 use Rattle.wire_numbers.proofs.placing.put_number.Goals as goal
 

@@ -1,14 +1,10 @@
 -- The loop's invariant: with the rest of the number put down after the first i bytes, the array is what it becomes.
 use Rattle.wire_numbers.proofs.placing.put_number.Given as goal
 use Prim.Native.Nat.{◌+◌, ◌-◌, ◌≤◌}
-use mathlib.Core.Path.{◌≡◌, refl, sym, ◌∙◌}
+use mathlib.Core.Path.{◌≡◌}
 use mathlib.Core.List.{◌++◌}
-use native.Mathlib.Omega.{arith}
-use borrow.Author.Rules.{rules}
-use lib.ListN.{length, take, drop, length-set, take-append-drop}
-use lib.Seq.{drop-set-lt}
+use lib.ListN.{length, take, drop}
 use Rattle.laws.specs.Bytes.{le_bytes}
-use Rattle.wire_numbers.proofs.Laws.{put_next}
 
 abbrev pub invariant-loop-i : goal.invariant-loop-i
 invariant-loop-i l =
