@@ -4,8 +4,6 @@ use mathlib.Core.Path.{◌≡◌, refl, sym, ◌∙◌}
 use mathlib.Core.Bool.{cond}
 use mathlib.Core.List.{List, [], ◌∷◌}
 use mathlib.Core.Option.{Option, some}
-use denote.Enum.Declared.{tag_of}
-use types.Run.{OneOf, miss}
 use lib.Dec.{leb}
 use lib.ListN.{get_or}
 use borrow.Author.Tests.{eq-eqb, ne_eqb, lt-ltb, le-ltb, lt-leb, le-leb}
@@ -85,19 +83,15 @@ module _ (i n : ℕ) (owners attached domains : List ℕ) (l : List Mapping) (a 
 
 -- A BLOCKED ACCESS
 
--- the tags of the answers that log no fault
-abbrev pub unlogged : List ℕ
-unlogged = 0 ∷ 1 ∷ 2 ∷ 3 ∷ 4 ∷ []
-
 module _ (s : State) (a : Access) where
-  pub logs-nothing : (x : Answer) → OneOf unlogged (tag_of answer.the_type x) → s ≡ after_access s a x
+  pub logs-nothing : (x : Answer) → ((c : Cause) → x ≡ Blocked c → ⊥) → s ≡ after_access s a x
   unfolding after_access
   logs-nothing Done h = refl
   logs-nothing (Served n) h = refl
   logs-nothing (Through y) h = refl
   logs-nothing (Fetched n) h = refl
   logs-nothing (Refused e) h = refl
-  logs-nothing (Blocked c) h = absurd (miss unlogged 5 tt h)
+  logs-nothing (Blocked c) h = absurd (h c refl)
 
   pub logs-fault : (c : Cause) (i : ℕ) (owner : Guest) (f : Fault) (t : State) → i ≡ endpoint_index s a.endpoint → owner ≡ owner_at s i → f ≡ fault_of c a → t ≡ log_fault s owner f → t ≡ after_access s a (Blocked c)
   unfolding after_access

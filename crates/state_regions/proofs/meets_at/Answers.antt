@@ -1,10 +1,6 @@
 use native.Mathlib.Omega.{arith}
-use borrow.Author.Rules.{rules}
-use Prim.Native.Nat.{◌-◌}
-use mathlib.Core.Path.{◌≡◌}
 use Rattle.rules.specs.Configuration.{meets}
-use Rattle.state_regions.specs.Held.{held_count}
-use Rattle.state_regions.proofs.Regions.{Asked, asked-none, asked-next, asked-all}
+use Rattle.state_regions.proofs.Regions.{asked-none, asked-next, asked-all}
 use Rattle.state_regions.proofs.meets_at.Goals as goal
 
 pub loop-j-preserved : goal.loop-j-preserved

@@ -1,4 +1,3 @@
-use borrow.Author.Rules.{rules}
 use mathlib.Core.Path.{sym, ◌∙◌}
 use Rattle.state_regions.proofs.Regions.{region-within, region-past, region-in}
 use Rattle.state_regions.proofs.region_at.Goals as goal
