@@ -1,12 +1,10 @@
 -- What serving a request shows at its returns.
 use Prim.Native.Nat.{ℕ, zero, suc, ◌+◌, ◌<◌, ◌≤◌}
-use mathlib.Core.Path.{◌≡◌, refl, sym, ap, subst, ◌∙◌}
+use mathlib.Core.Path.{◌≡◌, refl, sym, ap, ◌∙◌}
 use mathlib.Core.Bool.{Bool, true, false, cond, ◌&&◌}
 use mathlib.Core.List.{List, [], ◌∷◌, ◌++◌}
 use mathlib.Core.Option.{Option, some, none}
 use native.Mathlib.Omega.{arith}
-use denote.Enum.Declared.{tag_of}
-use types.Run.{OneOf, miss}
 use lib.Dec.{leb, eqb}
 use lib.ListN.{length, get_or, replicate, length-replicate}
 use borrow.Author.Tests.{lt-ltb, le-ltb, leb-true, eqb-true, not-false}
@@ -24,16 +22,12 @@ use Rattle.rules.specs.State.{Device}
 use Rattle.wire_requests.specs.declared.request.Request.{Request}
 use Rattle.wire_requests.specs.declared.request.Request.TheVariants as Q
 use Rattle.wire_requests.specs.Parsed.{asked, unless, parsed}
-use Rattle.wire_requests.specs.contracts.request.Request as request-type
 use Rattle.wire_properties.specs.Properties.{properties_put}
 use Rattle.state_regions.specs.Held.{held_regions}
 use Rattle.refinement.specs.Flat.{StatusAndDevice, with_status, owned_at, probe_bytes}
 use Rattle.refinement.specs.Requesting.{bytes_before, refused_request, served, unless_refused, serve}
 use Rattle.refinement.specs.Requesting as requesting
 use Rattle.call_request.specs.Answered.{Answered}
-
-abbrev pub handled-tags : List ℕ
-handled-tags = 1 ∷ 2 ∷ 3 ∷ 4 ∷ 5 ∷ []
 
 -- a request with no failing step is of a known type
 known-type : (r : List ℕ) (n : ℕ) → first_failing (request_refusals r n) ≡ none → (ATTACH ≤ type_of r) × (type_of r ≤ PROBE)
@@ -64,13 +58,13 @@ parsed-refused q r n a e f = go (first_failing (request_refusals r n)) refl (sym
     go none y x = unfold unless in let k = known-type r n y in absurd (asked-tag r a k.0 k.1 x)
     go (some b) y x = unfold unless in cc
 
-parsed-handled : (q : Request) (r : List ℕ) (n : ℕ) → q ≡ parsed r n → OneOf handled-tags (tag_of request-type.the_type q) → (first_failing (request_refusals r n) ≡ none) × (q ≡ asked r)
+parsed-handled : (q : Request) (r : List ℕ) (n : ℕ) → q ≡ parsed r n → ((a : Refusal) → q ≡ Q.Refused a → ⊥) → (first_failing (request_refusals r n) ≡ none) × (q ≡ asked r)
 unfolding parsed
 parsed-handled q r n e h = go (first_failing (request_refusals r n)) refl e
   where
     go : (m : Option Refusal) → first_failing (request_refusals r n) ≡ m → q ≡ unless m (asked r) → (first_failing (request_refusals r n) ≡ none) × (q ≡ asked r)
     go none x y = unfold unless in (x, y)
-    go (some a) x y = unfold unless in absurd (miss handled-tags 0 tt (subst (λ (z : Request). OneOf handled-tags (tag_of request-type.the_type z)) y h))
+    go (some a) x y = unfold unless in absurd (h a y)
 
 -- a request with no failing step has a writable part of its type's length
 writable-is : (r : List ℕ) (n : ℕ) → first_failing (request_refusals r n) ≡ none → n ≡ writable_length (type_of r)
@@ -86,7 +80,7 @@ at_least (suc (suc (suc (suc zero)))) l h = omega arith
 at_least (suc (suc (suc (suc (suc zero))))) l h = omega arith
 at_least (suc (suc (suc (suc (suc (suc t)))))) l h = absurd (omega arith)
 
-pub status-fits : (q : Request) (r : List ℕ) (n : ℕ) → q ≡ parsed r n → OneOf handled-tags (tag_of request-type.the_type q) → status_size ≤ n
+pub status-fits : (q : Request) (r : List ℕ) (n : ℕ) → q ≡ parsed r n → ((a : Refusal) → q ≡ Q.Refused a → ⊥) → status_size ≤ n
 status-fits q r n e h =
     let f = (parsed-handled q r n e h).0 in
     let k = known-type r n f in
@@ -127,7 +121,7 @@ module _ (d : Device) (g : Guest) (r b : List ℕ) where
     unfolding serve unless_refused
     serve-refused a f = rw (lt-ltb g.0 d.state.settings.guests l, parsed-refused q r (length b) a e f)
 
-    pub serve-works : (st : ℕ) (n : Device) (c : List ℕ) → OneOf handled-tags (tag_of request-type.the_type q) → Answered d g q b (with_status st n) c → (record { answer = Served (length b); buffer = c }, n) ≡ serve d g r b
+    pub serve-works : (st : ℕ) (n : Device) (c : List ℕ) → ((a : Refusal) → q ≡ Q.Refused a → ⊥) → Answered d g q b (with_status st n) c → (record { answer = Served (length b); buffer = c }, n) ≡ serve d g r b
     unfolding serve unless_refused
     serve-works st n c h x =
         let p = parsed-handled q r (length b) e h in

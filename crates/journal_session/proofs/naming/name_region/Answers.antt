@@ -1,4 +1,3 @@
--- `journal_session::naming::name_region` meets its contract. Assumes nothing.
 use Prim.Native.Nat.{ℕ, ◌≤◌, ◌<◌, min}
 use mathlib.Core.Path.{◌≡◌, refl, sym, ◌∙◌}
 use mathlib.Core.Bool.{true, false, and-false}
@@ -12,8 +11,7 @@ use Rattle.rules.specs.Sizes.{max_endpoints, max_regions}
 use Rattle.rules.specs.Configuration.{region_count}
 use Rattle.state_regions.specs.Held.{held_count}
 use Rattle.journal_session.specs.Naming.{named_place, region_taken, region_named}
-use Rattle.journal_session.proofs.naming.name_region.Statement.{statement}
-use Rattle.journal_session.proofs.naming.name_region.Tie as tie
+use Rattle.journal_session.proofs.naming.name_region.Goals as goal
 
 -- what the tests say of n named endpoints
 module _ (n : ℕ) (endpoints words : List ℕ) (e : Endpoint) (all : length endpoints ≡ max_endpoints) where
@@ -36,48 +34,26 @@ module _ (n : ℕ) (endpoints words : List ℕ) (e : Endpoint) (all : length end
 counted : (words : List ℕ) (i j : ℕ) → i < max_endpoints → j ≡ held_count words i → j ≡ min (region_count words i) max_regions
 counted words i j h e = rw (lt-ltb i max_endpoints h) at e
 
-not_named : tie.Need-returns
-not_named c =
-    let m = c.before in
-    let x = m.before in
-    let a = x.before.before.args in
+pub returns-then-i-at_most_all : goal.returns-then-i-at_most_all
+returns-then-i-at_most_all c =
+    let a = c.args in
     let l : length a.endpoints.now ≡ max_endpoints = search rules in
-    (unnamed a.n a.endpoints.now a.regions.now a.e l (omega (arith, m.at-most-all.ensures.0, x.index_of.ensures)), refl)
+    (unnamed a.n a.endpoints.now a.regions.now a.e l (omega (arith, c.at_most_all.ensures.0, c.index_of-i.ensures)), refl)
 
-fifth : tie.Need-returns-2
-fifth c =
-    let k = c.before in
-    let i = k.before.before.before in
-    let m = i.before in
-    let x = m.before in
-    let a = x.before.before.args in
+pub returns-then-j-ge-MAX_REGIONS : goal.returns-then-j-ge-MAX_REGIONS
+returns-then-j-ge-MAX_REGIONS c =
+    let a = c.args in
     let l : length a.endpoints.now ≡ max_endpoints = search rules in
-    let j = counted a.regions.now x.index_of.result k.count_at.result (omega (arith, m.at-most-all.ensures.1)) k.count_at.ensures in
-    (full a.n a.endpoints.now a.regions.now a.e l (rw (sym x.index_of.ensures) (omega (arith, j))), refl)
+    let j = counted a.regions.now c.index_of-i.result c.count_at-j.result (omega (arith, c.at_most_all.ensures.1)) c.count_at-j.ensures in
+    (full a.n a.endpoints.now a.regions.now a.e l (rw (sym c.index_of-i.ensures) (omega (arith, j))), refl)
 
-one_more : tie.Need-returns-3
+pub returns : goal.returns
 unfolding region_named
-one_more c =
-    let k = c.before.before.before in
-    let i = k.before.before.before in
-    let m = i.before in
-    let x = m.before in
-    let a = x.before.before.args in
+returns c =
+    let a = c.args in
     let l : length a.endpoints.now ≡ max_endpoints = search rules in
-    let j = counted a.regions.now x.index_of.result k.count_at.result (omega (arith, m.at-most-all.ensures.1)) k.count_at.ensures in
-    let n : k.count_at.result ≡ region_count a.regions.now x.index_of.result = omega (arith, j) in (
-      taken a.n a.endpoints.now a.regions.now a.e l (omega (arith, m.at-most-all.ensures.0, x.index_of.ensures)) (rw (sym x.index_of.ensures) (omega (arith, j))),
-      c.put-region.ensures ∙ rw (n, x.index_of.ensures),
+    let j = counted a.regions.now c.index_of-i.result c.count_at-j.result (omega (arith, c.at_most_all.ensures.1)) c.count_at-j.ensures in
+    let n : c.count_at-j.result ≡ region_count a.regions.now c.index_of-i.result = omega (arith, j) in (
+      taken a.n a.endpoints.now a.regions.now a.e l (omega (arith, c.at_most_all.ensures.0, c.index_of-i.ensures)) (rw (sym c.index_of-i.ensures) (omega (arith, j))),
+      c.put_region.ensures ∙ rw (n, c.index_of-i.ensures),
     )
-
-pub name-region-spec : {M : Type 1} → statement M
-name-region-spec =
-    tie.close
-    (tie.spec
-    (λ c κs. search rules)
-    (λ c κs. search rules)
-    not_named
-    (λ c κs. search rules)
-    fifth
-    (λ c κs. search rules)
-    one_more)

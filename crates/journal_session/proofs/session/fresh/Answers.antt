@@ -1,0 +1,6 @@
+use borrow.Author.Rules.{rules}
+use Rattle.journal_session.proofs.session.fresh.Goals as goal
+
+pub returns : goal.returns
+returns c =
+    rw c.zero_state.ensures

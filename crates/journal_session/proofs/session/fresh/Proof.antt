@@ -1,7 +1,0 @@
--- `journal_session::session::fresh` meets its contract. Assumes nothing.
-use borrow.Author.Rules.{rules}
-use Rattle.journal_session.proofs.session.fresh.Statement.{statement}
-use Rattle.journal_session.proofs.session.fresh.Tie as tie
-
-pub fresh-spec : {M : Type 1} → statement M
-fresh-spec = tie.close (tie.spec (λ c κs. search rules) (λ c. rw c.zero-state.ensures))
