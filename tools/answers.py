@@ -21,7 +21,8 @@ TURN = {"taken": "true", "left": "false", "inv": "invariant"}
 
 
 def norm(name):
-    return re.sub(r"_lem$", "", name.replace("-", "_").lower())
+    name = re.sub(r"_lem$", "", name.replace("-", "_").lower())
+    return "size_of" if name == "type_size" else name
 
 
 class Function:
