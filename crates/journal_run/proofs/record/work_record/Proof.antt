@@ -36,86 +36,86 @@ module _ (f : tie.After-front) where
   now = with start.args.live
 
   ready : Ready (device now start.args.t.now)
-  ready = start.pre.1
+  ready = start.requires.1
 
   is : {i : Item} → f.front.result ≡ i → front start.args.b.now ≡ i
   is e = sym f.front.ensures ∙ e
 
-request-requires : tie.Need-work-request-requires
+request-requires : tie.Need-work_request-requires
 request-requires c κs =
     let i = c.before.before.before.before.before in
     let f = i.before.before in
-    (front_fits (start f).args.b.now (ap works (is f i.g.given.1)), (start f).requires.0)
+    (front_fits (start f).args.b.now (ap works (is f i.g-1.given.1)), (start f).requires.0)
 
-probe-requires : tie.Need-work-probe-requires
+probe-requires : tie.Need-work_probe-requires
 probe-requires c κs =
     let i = c.before.before.before.before.before in
     let f = i.before.before in
-    (front_fits (start f).args.b.now (ap works (is f i.g2.given.1)), (start f).requires.0)
+    (front_fits (start f).args.b.now (ap works (is f i.g-in-Probe-1.given.1)), (start f).requires.0)
 
-fetch-requires : tie.Need-work-fetch-requires
+fetch-requires : tie.Need-work_fetch-requires
 fetch-requires c κs =
     let i = c.before.before.before.before.before.before.before in
     let f = i.before.before in
-    (rw (is f i.g4.given.1) at (asks-few (start f).args.b.now), (start f).requires.0)
+    (rw (is f i.g-in-Fetch-1.given.1) at (asks-few (start f).args.b.now), (start f).requires.0)
 
-requested : tie.Need-returns-7
+requested : tie.Need-returns-in-Request
 requested c =
     let x = c.before.before.before.before in
     let i = x.before.before.before.before.before.before in
     let f = i.before.before in
-    told-request (now f) (start f).args.t.now (start f).args.b.now (ready f) _ (is f i.g.given.1) (x.work-request.ensures (now f))
+    told-request (now f) (start f).args.t.now (start f).args.b.now (ready f) _ (is f i.g-1.given.1) (x.work_request.ensures (now f))
 
-probed : tie.Need-returns-8
+probed : tie.Need-returns-in-Probe
 probed c =
     let x = c.before.before.before.before in
     let i = x.before.before.before.before.before.before in
     let f = i.before.before in
-    told-probe (now f) (start f).args.t.now (start f).args.b.now (ready f) _ (is f i.g2.given.1) (x.work-probe.ensures (now f))
+    told-probe (now f) (start f).args.t.now (start f).args.b.now (ready f) _ (is f i.g-in-Probe-1.given.1) (x.work_probe.ensures (now f))
 
-accessed : tie.Need-returns-9
+accessed : tie.Need-returns-in-AccessBy
 accessed c =
     let x = c.before.before in
     let i = x.before.before.before.before.before.before.before.before.before.before.before.before in
     let f = i.before.before in
-    told-access (now f) (start f).args.t.now (start f).args.b.now (ready f) (lasts_fit (start f)) _ (is f i.a.given.1) (x.work-access.ensures (now f))
+    told-access (now f) (start f).args.t.now (start f).args.b.now (ready f) (lasts_fit (start f)) _ (is f i.a-1.given.1) (x.work_access.ensures (now f))
 
-cleared : tie.Need-returns-10
+cleared : tie.Need-returns-in-Reset
 cleared c =
     let x = c.before.before.before.before in
     let i = x.before.before.before.before.before.before.before.before.before.before.before.before in
     let f = i.before.before in
-    told-reset (now f) (start f).args.t.now (start f).args.b.now (ready f) _ (is f i.g3.given.1) (x.work-reset.ensures (now f))
+    told-reset (now f) (start f).args.t.now (start f).args.b.now (ready f) _ (is f i.g-in-Reset-1.given.1) (x.work_reset.ensures (now f))
 
-fetched : tie.Need-returns-11
+fetched : tie.Need-returns-in-Fetch
 fetched c =
     let x = c.before.before in
     let i = x.before.before.before.before.before.before.before.before in
     let f = i.before.before in
-    told-fetch (now f) (start f).args.t.now (start f).args.b.now (ready f) _ _ (is f i.g4.given.1) (x.work-fetch.ensures (now f) (start f).args.t.now)
+    told-fetch (now f) (start f).args.t.now (start f).args.b.now (ready f) _ _ (is f i.g-in-Fetch-1.given.1) (x.work_fetch.ensures (now f) (start f).args.t.now)
 
-pub work-record-spec : {M : Type 1} → statement M
-work-record-spec =
+pub work_record_spec : {M : Type 1} → statement M
+work_record_spec =
     tie.close
     (tie.spec
     (λ c κs. tt)
-    (λ c. c.match.keys1) (λ c κs. tt)
-    (λ c. c.match.keys2) (λ c κs. tt)
-    (λ c. c.match.keys3) (λ c κs. tt)
-    (λ c. c.match.keys4) (λ c κs. tt)
-    (λ c. c.match.keys5) (λ c κs. tt)
-    (λ c. c.match.keys6) (λ c κs. tt)
-    (λ c. c.match.keys7) request-requires
-    (λ c. c.match.keys8) probe-requires
-    (λ c. c.match.keys9) (λ c κs. (start c.before.before.before.before.before.before.before.before.before.before.before.before.before).pre.0)
-    (λ c. c.match.keys10) (λ c κs. (start c.before.before.before.before.before.before.before.before.before.before.before.before.before).pre.0)
-    (λ c. c.match.keys11) fetch-requires
-    (λ c. let f = c.before.before.before in unfold step_of in told-item (now f) (start f).args.t.now (start f).args.b.now (is f c.before.enum_told.given.1) (tells-stop (with f) c.unread.ensures))
-    (λ c. let f = c.before.before.before in unfold step_of in told-item (now f) (start f).args.t.now (start f).args.b.now (is f c.before.enum-told2.given.1) (tells-stop (with f) c.unread2.ensures))
-    (λ c. let f = c.before.before.before in unfold step_of in told-item (now f) (start f).args.t.now (start f).args.b.now (is f c.before.enum-told3.given.1) (tells-stop (with f) c.unread3.ensures))
-    (λ c. let f = c.before.before.before in unfold step_of in told-item (now f) (start f).args.t.now (start f).args.b.now (is f c.before.enum-told4.given.1) (tells-stop (with f) c.unread4.ensures))
-    (λ c. let f = c.before.before.before in unfold step_of in told-item (now f) (start f).args.t.now (start f).args.b.now (is f c.before.enum-told5.given.1) (tells-stop (with f) c.unread5.ensures))
-    (λ c. let f = c.before.before.before in unfold step_of in told-item (now f) (start f).args.t.now (start f).args.b.now (is f c.before.enum-told6.given.1) (tells-stop (with f) c.unread6.ensures))
+    (λ c. c.in-Fetch.keys1) (λ c κs. tt)
+    (λ c. c.in-Fetch.keys2) (λ c κs. tt)
+    (λ c. c.in-Fetch.keys3) (λ c κs. tt)
+    (λ c. c.in-Fetch.keys4) (λ c κs. tt)
+    (λ c. c.in-Fetch.keys5) (λ c κs. tt)
+    (λ c. c.in-Fetch.keys6) (λ c κs. tt)
+    (λ c. c.in-Fetch.keys7) request-requires
+    (λ c. c.in-Fetch.keys8) probe-requires
+    (λ c. c.in-Fetch.keys9) (λ c κs. (start c.before.before.before.before.before.before.before.before.before.before.before.before.before).requires.0)
+    (λ c. c.in-Fetch.keys10) (λ c κs. (start c.before.before.before.before.before.before.before.before.before.before.before.before.before).requires.0)
+    (λ c. c.in-Fetch.keys11) fetch-requires
+    (λ c. let f = c.before.before.before in unfold step_of in told-item (now f) (start f).args.t.now (start f).args.b.now (is f c.before.enum_told-1.given.1) (tells-stop (with f) c.unread.ensures))
+    (λ c. let f = c.before.before.before in unfold step_of in told-item (now f) (start f).args.t.now (start f).args.b.now (is f c.before.enum_told-in-Wrong-1.given.1) (tells-stop (with f) c.unread-in-Wrong.ensures))
+    (λ c. let f = c.before.before.before in unfold step_of in told-item (now f) (start f).args.t.now (start f).args.b.now (is f c.before.enum_told-in-NamedGuest-1.given.1) (tells-stop (with f) c.unread-in-NamedGuest.ensures))
+    (λ c. let f = c.before.before.before in unfold step_of in told-item (now f) (start f).args.t.now (start f).args.b.now (is f c.before.enum_told-in-NamedEndpoint-1.given.1) (tells-stop (with f) c.unread-in-NamedEndpoint.ensures))
+    (λ c. let f = c.before.before.before in unfold step_of in told-item (now f) (start f).args.t.now (start f).args.b.now (is f c.before.enum_told-in-Start-1.given.1) (tells-stop (with f) c.unread-in-Start.ensures))
+    (λ c. let f = c.before.before.before in unfold step_of in told-item (now f) (start f).args.t.now (start f).args.b.now (is f c.before.enum_told-in-NamedRegion-1.given.1) (tells-stop (with f) c.unread-in-NamedRegion.ensures))
     (λ c. search rules) (λ c. search rules) requested
     (λ c. search rules) (λ c. search rules) probed
     (λ c. search rules) (λ c. search rules) accessed

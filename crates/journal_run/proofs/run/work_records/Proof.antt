@@ -19,127 +19,127 @@ use Rattle.journal_run.proofs.Running.{stays-ready}
 use Rattle.journal_run.proofs.run.work_records.Statement.{statement}
 use Rattle.journal_run.proofs.run.work_records.Tie as tie
 
-abbrev invariant-loop : tie.invariant-loop
-invariant-loop settings listed live endpoints owners attached₀ domains₀ regions logged₀ lost₀ reasons₀ flags₀ sources₀ addresses₀ t₀ b out₀ count₀ read₀ printed₀ attached domains logged lost reasons flags sources addresses t out count read printed =
+abbrev invariant-loop-out : tie.invariant-loop-out
+invariant-loop-out settings listed live endpoints owners attached₀ domains₀ regions logged₀ lost₀ reasons₀ flags₀ sources₀ addresses₀ t₀ b out₀ count₀ read₀ printed₀ attached domains logged lost reasons flags sources addresses t out count read printed =
     Went (running (state_with settings listed live endpoints owners attached₀ domains₀ regions logged₀ lost₀ reasons₀ flags₀ sources₀ addresses₀)) t₀ b out₀ (running (state_with settings listed count endpoints owners attached domains regions logged lost reasons flags sources addresses)) t out read printed
     × (length t ≡ length t₀)
     × Ready (device_with settings listed count endpoints owners attached domains regions logged lost reasons flags sources addresses t)
 
-abbrev decreases-loop : tie.decreases-loop
-decreases-loop settings listed live endpoints owners attached₀ domains₀ regions logged₀ lost₀ reasons₀ flags₀ sources₀ addresses₀ t₀ b out₀ count₀ read₀ printed₀ attached domains logged lost reasons flags sources addresses t out count read printed =
+abbrev decreases-loop-out : tie.decreases-loop-out
+decreases-loop-out settings listed live endpoints owners attached₀ domains₀ regions logged₀ lost₀ reasons₀ flags₀ sources₀ addresses₀ t₀ b out₀ count₀ read₀ printed₀ attached domains logged lost reasons flags sources addresses t out count read printed =
     length b - read
 
-loop-holds : tie.Need-loop-init invariant-loop decreases-loop
-loop-holds c = let s = c.before.before.before in let a = s.args in (begins _ a.t.now a.b.now a.out.now, refl, s.requires)
+loop-holds : tie.Need-loop-out-init invariant-loop-out decreases-loop-out
+loop-holds c = let s = c.before.before.before in let a = s.args in (begins _ a.t-1.now a.b.now a.out-1.now, refl, s.requires)
 
-module _ (l : tie.At-loop invariant-loop decreases-loop) where
-  abbrev start : tie.Start invariant-loop decreases-loop
+module _ (l : tie.At-loop-out invariant-loop-out decreases-loop-out) where
+  abbrev start : tie.Start invariant-loop-out decreases-loop-out
   start = l.before.before.before.before
 
   abbrev from : Session
   from = running (state_with start.args.settings start.args.listed start.args.live start.args.endpoints.now start.args.owners.now start.args.attached.now start.args.domains.now start.args.regions.now start.args.logged.now start.args.lost.now start.args.reasons.now start.args.flags.now start.args.sources.now start.args.addresses.now)
 
   abbrev at : Session
-  at = running (state_with start.args.settings start.args.listed l.loop.count start.args.endpoints.now start.args.owners.now l.loop.attached l.loop.domains start.args.regions.now l.loop.logged l.loop.lost l.loop.reasons l.loop.flags l.loop.sources l.loop.addresses)
+  at = running (state_with start.args.settings start.args.listed l.loop-out.count start.args.endpoints.now start.args.owners.now l.loop-out.attached l.loop-out.domains start.args.regions.now l.loop-out.logged l.loop-out.lost l.loop-out.reasons l.loop-out.flags l.loop-out.sources l.loop-out.addresses)
 
-  abbrev went : Went from start.args.t.now start.args.b.now start.args.out.now at l.loop.t l.loop.out l.loop.read l.loop.printed
-  went = l.loop.inv.0
+  abbrev went : Went from start.args.t.now start.args.b.now start.args.out.now at l.loop-out.t-1 l.loop-out.out-1 l.loop-out.read l.loop-out.printed
+  went = l.loop-out.invariant.0
 
 -- what the record in the loop's body tells of the rest of the part
-module _ (y : tie.After-work-record invariant-loop decreases-loop) where
-  abbrev l : tie.At-loop invariant-loop decreases-loop
+module _ (y : tie.After-work_record-x invariant-loop-out decreases-loop-out) where
+  abbrev l : tie.At-loop-out invariant-loop-out decreases-loop-out
   l = y.before.before.before.before.before.before.before.before.before.before.before.before.before
 
   abbrev b : List ℕ
   b = (start l).args.b.now
 
   abbrev next : StepResult
-  next = ran_to (state_with (start l).args.settings (start l).args.listed y.work-record.result.live (start l).args.endpoints.now (start l).args.owners.now y.work-record.last.1.1.1.1.1.0 y.work-record.last.1.1.1.1.1.1.0 (start l).args.regions.now y.work-record.last.1.1.1.1.1.1.1.1.0 y.work-record.last.1.1.1.1.1.1.1.1.1.0 y.work-record.last.1.1.1.1.1.1.1.1.1.1.0 y.work-record.last.1.1.1.1.1.1.1.1.1.1.1.0 y.work-record.last.1.1.1.1.1.1.1.1.1.1.1.1.0 y.work-record.last.1.1.1.1.1.1.1.1.1.1.1.1.1.0) y.work-record.result
+  next = ran_to (state_with (start l).args.settings (start l).args.listed y.work_record-x.result.live (start l).args.endpoints.now (start l).args.owners.now y.work_record-x.last.1.1.1.1.1.0 y.work_record-x.last.1.1.1.1.1.1.0 (start l).args.regions.now y.work_record-x.last.1.1.1.1.1.1.1.1.0 y.work_record-x.last.1.1.1.1.1.1.1.1.1.0 y.work_record-x.last.1.1.1.1.1.1.1.1.1.1.0 y.work_record-x.last.1.1.1.1.1.1.1.1.1.1.1.0 y.work_record-x.last.1.1.1.1.1.1.1.1.1.1.1.1.0 y.work_record-x.last.1.1.1.1.1.1.1.1.1.1.1.1.1.0) y.work_record-x.result
 
   abbrev words : List ℕ
-  words = y.work-record.last.1.1.1.1.1.1.1.1.1.1.1.1.1.1.0
+  words = y.work_record-x.last.1.1.1.1.1.1.1.1.1.1.1.1.1.1.0
 
   abbrev left : List ℕ
-  left = y.work-record.last.1.1.1.1.1.1.1.1.1.1.1.1.1.1.1.1.0
+  left = y.work_record-x.last.1.1.1.1.1.1.1.1.1.1.1.1.1.1.1.1.0
 
-  told : Matches next words l.loop.out left l.loop.printed (step_record (at l) l.loop.t (drop l.loop.read b))
-  told = rw (take_all (length b - l.loop.read) (drop l.loop.read b) (omega (arith, length-drop l.loop.read b))) at y.work-record.ensures
+  told : Matches next words l.loop-out.out-1 left l.loop-out.printed (step_record (at l) l.loop-out.t-1 (drop l.loop-out.read b))
+  told = rw (take_all (length b - l.loop-out.read) (drop l.loop-out.read b) (omega (arith, length-drop l.loop-out.read b))) at y.work_record-x.ensures
 
-  reads : y.work-record.result.read ≤ length b - l.loop.read
-  reads = omega (arith, told.read, step-reads (at l) l.loop.t (drop l.loop.read b), length-drop l.loop.read b)
+  reads : y.work_record-x.result.read ≤ length b - l.loop-out.read
+  reads = omega (arith, told.read, step-reads (at l) l.loop-out.t-1 (drop l.loop-out.read b), length-drop l.loop-out.read b)
 
   same-words : length words ≡ length (start l).args.t.now
-  same-words = let e : length words ≡ length l.loop.t = search rules in e ∙ l.loop.inv.1
+  same-words = let e : length words ≡ length l.loop-out.t-1 = search rules in e ∙ l.loop-out.invariant.1
 
   same_out : length left ≡ length (start l).args.out.now
-  same_out = let e : length left ≡ length l.loop.out = search rules in e ∙ (went l).same
+  same_out = let e : length left ≡ length l.loop-out.out-1 = search rules in e ∙ (went l).same
 
-  room : record_room ≤ length (start l).args.out.now - l.loop.printed
+  room : record_room ≤ length (start l).args.out.now - l.loop-out.printed
   room = omega (arith, (went l).same)
 
-  fits : l.loop.printed + y.work-record.result.printed ≤ length (start l).args.out.now
-  fits = fits_on (from l) (start l).args.t.now b (start l).args.out.now (at l) l.loop.t l.loop.out l.loop.read l.loop.printed (went l) (step_record (at l) l.loop.t (drop l.loop.read b)) next words left told same_out
+  fits : l.loop-out.printed + y.work_record-x.result.printed ≤ length (start l).args.out.now
+  fits = fits_on (from l) (start l).args.t.now b (start l).args.out.now (at l) l.loop-out.t-1 l.loop-out.out-1 l.loop-out.read l.loop-out.printed (went l) (step_record (at l) l.loop-out.t-1 (drop l.loop-out.read b)) next words left told same_out
 
-sub-loop : tie.Need-overflow-sub-loop invariant-loop decreases-loop
+sub-loop : tie.Need-overflow_sub-out invariant-loop-out decreases-loop-out
 sub-loop c = let w = went c in omega (arith, w.same, w.fits)
 
-sub-work-record : tie.Need-overflow-sub-work-record invariant-loop decreases-loop
+sub-work-record : tie.Need-slice_bounds-work_record-count invariant-loop-out decreases-loop-out
 sub-work-record c = (went c.before.before.before.before.before.before.before.before.before.before).within
 
-part-work-record-start : tie.Need-slice-bounds-work-record-start invariant-loop decreases-loop
+part-work-record-start : tie.Need-slice_bounds-work_record-start invariant-loop-out decreases-loop-out
 part-work-record-start c = let w = went c.before.before.before.before.before.before.before.before.before.before in omega (arith, w.within)
 
-part-work-record-end : tie.Need-slice-bounds-work-record-end invariant-loop decreases-loop
+part-work-record-end : tie.Need-slice_bounds-work_record-end invariant-loop-out decreases-loop-out
 part-work-record-end c = search rules
 
-work-record-requires : tie.Need-work-record-requires invariant-loop decreases-loop
-work-record-requires c κs = let l = c.before.before.before.before.before.before.before.before.before.before.before.before in let w = went l in (omega (arith, w.same, w.fits), l.loop.invariant.2)
+work-record-requires : tie.Need-work_record-x-requires invariant-loop-out decreases-loop-out
+work-record-requires c κs = let l = c.before.before.before.before.before.before.before.before.before.before.before.before in let w = went l in (omega (arith, w.same, w.fits), l.loop-out.invariant.2)
 
-past-requires : tie.Need-past-requires invariant-loop decreases-loop
+past-requires : tie.Need-past-read-requires invariant-loop-out decreases-loop-out
 past-requires c κs = let y = c.before.before.before.before in omega (arith, reads y, (went (l y)).within)
 
-past-requires-2 : tie.Need-past-requires-2 invariant-loop decreases-loop
+past-requires-2 : tie.Need-past-printed-requires invariant-loop-out decreases-loop-out
 past-requires-2 c κs = let y = c.before.before.before.before.before in omega (arith, fits y, (went (l y)).same)
 
-same_length : tie.Need-same-length invariant-loop decreases-loop
+same_length : tie.Need-shape_of-t-then-x-eq0 invariant-loop-out decreases-loop-out
 same_length c = same-words c.before.before.before.before.before.before.before.before
 
-same-length-2 : tie.Need-same-length-2 invariant-loop decreases-loop
+same-length-2 : tie.Need-shape_of-out-then-x-eq0 invariant-loop-out decreases-loop-out
 same-length-2 c = same_out c.before.before.before.before.before.before.before.before
 
-returns : tie.Need-returns invariant-loop decreases-loop
+returns : tie.Need-returns-then-x-eq0 invariant-loop-out decreases-loop-out
 returns c =
     let y = c.before.before.before.before.before.before.before.before in
-    rw (c.before.before.before.past.ensures, c.before.before.past2.ensures) (stops (from (l y)) (start (l y)).args.t.now (b y) (start (l y)).args.out.now (at (l y)) (l y).loop.t (l y).loop.out (l y).loop.read (l y).loop.printed (went (l y)) (room y) (next y) (words y) (left y) (told y) (same_out y) (omega arith))
+    rw (c.before.before.before.past-read.ensures, c.before.before.past-printed.ensures) (stops (from (l y)) (start (l y)).args.t.now (b y) (start (l y)).args.out.now (at (l y)) (l y).loop-out.t-1 (l y).loop-out.out-1 (l y).loop-out.read (l y).loop-out.printed (went (l y)) (room y) (next y) (words y) (left y) (told y) (same_out y) (omega arith))
 
-loop-less : tie.Need-loop-smaller invariant-loop decreases-loop
-loop-less c = let y = c.before.before.before.before.before.before.before.before in omega (arith, c.before.before.before.past.ensures, reads y, (went (l y)).within)
+loop-less : tie.Need-loop-out-smaller invariant-loop-out decreases-loop-out
+loop-less c = let y = c.before.before.before.before.before.before.before.before in omega (arith, c.before.before.before.past-read.ensures, reads y, (went (l y)).within)
 
-loop-again : tie.Need-loop-preserved invariant-loop decreases-loop
+loop-again : tie.Need-loop-out-preserved invariant-loop-out decreases-loop-out
 loop-again c =
     let y = c.before.before.before.before.before.before.before.before in (
-      rw (c.before.before.before.past.ensures, c.before.before.past2.ensures) (goes_on (from (l y)) (start (l y)).args.t.now (b y) (start (l y)).args.out.now (at (l y)) (l y).loop.t (l y).loop.out (l y).loop.read (l y).loop.printed (went (l y)) (room y) (next y) (words y) (left y) (told y) (same_out y) (omega arith) (omega (arith, reads y, (went (l y)).within))),
+      rw (c.before.before.before.past-read.ensures, c.before.before.past-printed.ensures) (goes_on (from (l y)) (start (l y)).args.t.now (b y) (start (l y)).args.out.now (at (l y)) (l y).loop-out.t-1 (l y).loop-out.out-1 (l y).loop-out.read (l y).loop-out.printed (went (l y)) (room y) (next y) (words y) (left y) (told y) (same_out y) (omega arith) (omega (arith, reads y, (went (l y)).within))),
       same-words y,
-      stays-ready (at (l y)).state (l y).loop.t (drop (l y).loop.read (b y)) (l y).loop.invariant.2 (told y),
+      stays-ready (at (l y)).state (l y).loop-out.t-1 (drop (l y).loop-out.read (b y)) (l y).loop-out.invariant.2 (told y),
     )
 
-same-length-3 : tie.Need-same-length-3 invariant-loop decreases-loop
-same-length-3 c = c.before.loop.invariant.1
+same-length-3 : tie.Need-shape_of-t invariant-loop-out decreases-loop-out
+same-length-3 c = c.before.loop-out.invariant.1
 
-same-length-4 : tie.Need-same-length-4 invariant-loop decreases-loop
+same-length-4 : tie.Need-shape_of-out invariant-loop-out decreases-loop-out
 same-length-4 c = (went c.before).same
 
-returns-2 : tie.Need-returns-2 invariant-loop decreases-loop
+returns-2 : tie.Need-returns invariant-loop-out decreases-loop-out
 returns-2 c =
     let l = c.before in
-    fills (from l) (start l).args.t.now (start l).args.b.now (start l).args.out.now (at l) l.loop.t l.loop.out l.loop.read l.loop.printed (went l) (omega (arith, (went l).same))
+    fills (from l) (start l).args.t.now (start l).args.b.now (start l).args.out.now (at l) l.loop-out.t-1 l.loop-out.out-1 l.loop-out.read l.loop-out.printed (went l) (omega (arith, (went l).same))
 
-pub work-records-spec : {M : Type 1} → statement M
-work-records-spec =
+pub work_records_spec : {M : Type 1} → statement M
+work_records_spec =
     tie.close
     (tie.spec
-    invariant-loop
-    decreases-loop
+    invariant-loop-out
+    decreases-loop-out
     loop-holds
     sub-loop
     sub-work-record
