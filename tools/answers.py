@@ -386,13 +386,16 @@ def keep_form(folder, text, f, said, path):
         key = norm(m[1])
         if key == "pre":
             return ".requires"
-        return "." + (f.steps.get(key, m[1]) if key not in FIELDS else m[1])
+        new = f.steps.get(key, m[1])
+        if key in FIELDS or new == m[1] + "-1" and key not in f.callees and not m.string.startswith(".given", m.end()):
+            return "." + m[1]
+        return "." + new
 
     def given(m):
         names = f.callees.get(norm(m[1]))
         return f".{m[1]}.new." + names[m[2].count("1")] if names else m[0]
 
-    text = re.sub(r"\.([a-z][\w-]*)\.new\.((?:1\.)*0)(?![\w.])", given, text)
+    text = re.sub(r"\.([a-z][\w-]*)\.(?:new|last)\.((?:1\.)*0)(?![\w.])", given, text)
     text = re.sub(r"(?<=[\w)])(?<!args)(?<!\.new)\.([a-z][\w-]*)(?![\w-])", field, text)
     text = re.sub(r"(\.(?:if-[\w-]+|[\w-]+-test))\.left(?![\w-])", r"\1.false", text)
     text = re.sub(r"(-arg-[\w-]*\.given)\.0(?![\w.])", r"\1", text)

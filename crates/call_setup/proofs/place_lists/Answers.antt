@@ -18,14 +18,14 @@ loop-i-preserved c =
     let a = c.args in (
       pad-one a.endpoints.now a.numbers.now c.requires.0 c.loop-i.invariant.0 _ (omega arith)
           (elim c.if-i-endpoints.branch [
-      then-i-endpoints w ↦ w.number-is
-    | else-i-endpoints w ↦ w.number-is ∙ sym (get_or-eq_default a.endpoints.now 0 w.if-i-endpoints.false)
-    ]),
+            | then-i-endpoints w ↦ w.number-is
+            | else-i-endpoints w ↦ w.number-is ∙ sym (get_or-eq_default a.endpoints.now 0 w.if-i-endpoints.false)
+          ]),
       pad-one a.owners.now a.holders.now c.requires.1 c.loop-i.invariant.1 _ (omega arith)
           (elim c.if-i-owners.branch [
-      then-i-owners w ↦ w.holder-is
-    | else-i-owners w ↦ w.holder-is ∙ sym (get_or-eq_default a.owners.now 0 w.if-i-owners.false)
-    ]),
+            | then-i-owners w ↦ w.holder-is
+            | else-i-owners w ↦ w.holder-is ∙ sym (get_or-eq_default a.owners.now 0 w.if-i-owners.false)
+          ]),
     )
 
 pub returns : goal.returns

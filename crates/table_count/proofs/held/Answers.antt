@@ -20,8 +20,8 @@ loop-i-preserved c =
     let q : Mapping → Bool = λ r. eqb (guest_of r) a.g.0 in
     let e = sym (c.is_of.ensures ∙ ap q c.get.ensures) in
     elim c.if-is_of.branch [
-      then-is_of w ↦ (omega arith, omega arith, omega (arith, ap length (keep-yes q no_mapping (records a.t.now) a.live c.loop-i.i (omega arith) (e ∙ w.if-is_of.true))))
-    | else-is_of w ↦ (omega arith, omega arith, omega (arith, ap length (keep-no q no_mapping (records a.t.now) a.live c.loop-i.i (omega arith) (e ∙ w.if-is_of.false))))
+      | then-is_of w ↦ (omega arith, omega arith, omega (arith, ap length (keep-yes q no_mapping (records a.t.now) a.live c.loop-i.i (omega arith) (e ∙ w.if-is_of.true))))
+      | else-is_of w ↦ (omega arith, omega arith, omega (arith, ap length (keep-no q no_mapping (records a.t.now) a.live c.loop-i.i (omega arith) (e ∙ w.if-is_of.false))))
     ]
 
 pub returns : goal.returns

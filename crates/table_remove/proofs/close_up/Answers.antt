@@ -30,29 +30,29 @@ loop-i-preserved c =
     let r = c.get-r.ensures in
     let j = ap not (sym (c.is_within.ensures ∙ ap (within a.low a.high a.a a.b) r)) in
     elim c.if-not-is_within.branch [
-      then-not-is_within w ↦
-        let y : q x ≡ true = j ∙ ap not w.if-not-is_within.true in
-        let l : length c.if-not-is_within.t ≡ length a.t.now = ap length w.t-is ∙ w.write.auto.t ∙ c.loop-i.invariant.2 in
-        let e : c.if-not-is_within.t ≡ words (set T k x) ++ spare c.loop-i.t = w.t-is ∙ w.write.ensures ∙ rw r in
-        let v = wrote c.loop-i.t c.if-not-is_within.t (set T k x) e in (
-          omega (arith, w.kept-is),
-          omega arith,
-          l,
-          same-records c.if-not-is_within.t a.t.now l,
-          rw (w.kept-is, v.0) (close_up q no_mapping T a.n i m k (omega arith) y ∙ c.loop-i.invariant.4),
-          ap (drop a.n) v.0 ∙ drop-set-lt a.n T k x (omega arith) ∙ c.loop-i.invariant.5,
-          v.1 ∙ c.loop-i.invariant.6,
-        )
-    | else-not-is_within w ↦
-        let y : q x ≡ false = j ∙ ap not w.if-not-is_within.false in (
-          omega (arith, w.kept-is),
-          omega arith,
-          ap length w.t-is ∙ c.loop-i.invariant.2,
-          ap (λ t. length (records t)) w.t-is ∙ c.loop-i.invariant.3,
-          rw (w.t-is, w.kept-is, ← keep-no q no_mapping T a.n i m y) c.loop-i.invariant.4,
-          ap (λ t. drop a.n (records t)) w.t-is ∙ c.loop-i.invariant.5,
-          ap spare w.t-is ∙ c.loop-i.invariant.6,
-        )
+      | then-not-is_within w ↦
+          let y : q x ≡ true = j ∙ ap not w.if-not-is_within.true in
+          let l : length c.if-not-is_within.t ≡ length a.t.now = ap length w.t-is ∙ w.write.auto.t ∙ c.loop-i.invariant.2 in
+          let e : c.if-not-is_within.t ≡ words (set T k x) ++ spare c.loop-i.t = w.t-is ∙ w.write.ensures ∙ rw r in
+          let v = wrote c.loop-i.t c.if-not-is_within.t (set T k x) e in (
+            omega (arith, w.kept-is),
+            omega arith,
+            l,
+            same-records c.if-not-is_within.t a.t.now l,
+            rw (w.kept-is, v.0) (close_up q no_mapping T a.n i m k (omega arith) y ∙ c.loop-i.invariant.4),
+            ap (drop a.n) v.0 ∙ drop-set-lt a.n T k x (omega arith) ∙ c.loop-i.invariant.5,
+            v.1 ∙ c.loop-i.invariant.6,
+          )
+      | else-not-is_within w ↦
+          let y : q x ≡ false = j ∙ ap not w.if-not-is_within.false in (
+            omega (arith, w.kept-is),
+            omega arith,
+            ap length w.t-is ∙ c.loop-i.invariant.2,
+            ap (λ t. length (records t)) w.t-is ∙ c.loop-i.invariant.3,
+            rw (w.t-is, w.kept-is, ← keep-no q no_mapping T a.n i m y) c.loop-i.invariant.4,
+            ap (λ t. drop a.n (records t)) w.t-is ∙ c.loop-i.invariant.5,
+            ap spare w.t-is ∙ c.loop-i.invariant.6,
+          )
     ]
 
 pub returns : goal.returns

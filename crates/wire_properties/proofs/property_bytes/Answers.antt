@@ -1,6 +1,5 @@
 -- The numbers lie at their places, and all else is zero.
 use mathlib.Core.Path.{◌∙◌}
-use borrow.Author.Rules.{rules}
 use Rattle.rules.specs.Handlers.{property_bytes}
 use Rattle.wire_properties.specs.Properties.{property_put}
 use Rattle.wire_properties.proofs.property_bytes.Goals as goal

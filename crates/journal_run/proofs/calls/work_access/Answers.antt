@@ -11,7 +11,7 @@ use Rattle.journal_run.proofs.calls.work_access.Goals as goal
 pub returns : goal.returns
 returns c s =
     let a = c.args in
-    let l = c.make_access-answer.new.1.1.1.1.1.1 in
-    let on : ℕ → State = λ n. with_endpoints a.listed a.endpoints.now a.owners.now a.attached.now a.domains.now n (with_logs l.0 l.1.0 l.1.1.0 l.1.1.1.0 l.1.1.1.1.0 l.1.1.1.1.1.0 s) in
+    let l = c.make_access-answer.new in
+    let on : ℕ → State = λ n. with_endpoints a.listed a.endpoints.now a.owners.now a.attached.now a.domains.now n (with_logs l.logged l.lost l.reasons l.flags l.sources l.addresses s) in
     let m = with_endpoints a.listed a.endpoints.now a.owners.now a.attached.now a.domains.now a.live (with_logs a.logged.now a.lost.now a.reasons.now a.flags.now a.sources.now a.addresses.now s) in
-    tells-ran line_room a.b.now (λ r. access_line r.answer) on (omega (arith, c.requires)) (accessed m a.t.now a.a (c.make_access-answer.ensures.0 m) (c.make_access-answer.ensures.1 m)) c.put_access-k.ensures c.consumed.ensures
+    tells-ran line_room a.b.now (λ r. access_line r.answer) on (omega (arith, c.requires)) (accessed m a.t.now a.a (c.make_access-answer.ensures.value m) (c.make_access-answer.ensures.s_after m)) c.put_access-k.ensures c.consumed.ensures

@@ -9,9 +9,8 @@ use Rattle.journal_run.proofs.calls.work_reset.Goals as goal
 pub returns : goal.returns
 returns c s =
     let a = c.args in
-    let e = c.reset_guest-x.new.1.1.1.1 in
-    let l = e.1.1 in
-    let after = with_logs l.0 l.1.0 l.1.1.0 l.1.1.1.0 l.1.1.1.1.0 l.1.1.1.1.1.0 s in
+    let l = c.reset_guest-x.new in
+    let after = with_logs l.logged l.lost l.reasons l.flags l.sources l.addresses s in
     let m = with_endpoints a.listed s.endpoints a.owners.now a.attached.now a.domains.now a.live s in
-    tells-ran line_room a.b.now (λ r. number_line letter_z r.answer) (λ n. with_endpoints a.listed s.endpoints a.owners.now e.0 e.1.0 n after) (omega (arith, c.requires))
-    (cleared _ _ a.t.now a.g c.reset_guest-x.ensures.0 (c.reset_guest-x.ensures.1.0 m) (c.reset_guest-x.ensures.1.1 after)) c.put_number-k.ensures c.consumed.ensures
+    tells-ran line_room a.b.now (λ r. number_line letter_z r.answer) (λ n. with_endpoints a.listed s.endpoints a.owners.now l.attached l.domains n after) (omega (arith, c.requires))
+    (cleared _ _ a.t.now a.g c.reset_guest-x.ensures.answer_value (c.reset_guest-x.ensures.s_after m) (c.reset_guest-x.ensures.t_after after)) c.put_number-k.ensures c.consumed.ensures

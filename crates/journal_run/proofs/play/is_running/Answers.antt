@@ -12,4 +12,4 @@ returns-then-not-p c = let a = c.args in sym (ap (λ (z : Bool). z && sound (dev
 pub returns : goal.returns
 returns c =
     let a = c.args in
-    c.is_sound.ensures.0 ∙ sym (ap (λ (z : Bool). z && sound (device a.p.state a.t.now)) (c.if-not-p.false))
+    c.is_sound.ensures.value ∙ sym (ap (λ (z : Bool). z && sound (device a.p.state a.t.now)) (c.if-not-p.false))

@@ -30,7 +30,7 @@ decreases-loop-out settings listed live endpoints owners attached₀ domains₀ 
     length b - read
 
 loop-holds : tie.Need-loop-out-init invariant-loop-out decreases-loop-out
-loop-holds c = let s = c.before.before.before in let a = s.args in (begins _ a.t-1.now a.b.now a.out-1.now, refl, s.requires)
+loop-holds c = let s = c.before.before.before in let a = s.args in (begins _ a.t.now a.b.now a.out.now, refl, s.requires)
 
 module _ (l : tie.At-loop-out invariant-loop-out decreases-loop-out) where
   abbrev start : tie.Start invariant-loop-out decreases-loop-out
@@ -42,7 +42,7 @@ module _ (l : tie.At-loop-out invariant-loop-out decreases-loop-out) where
   abbrev at : Session
   at = running (state_with start.args.settings start.args.listed l.loop-out.count start.args.endpoints.now start.args.owners.now l.loop-out.attached l.loop-out.domains start.args.regions.now l.loop-out.logged l.loop-out.lost l.loop-out.reasons l.loop-out.flags l.loop-out.sources l.loop-out.addresses)
 
-  abbrev went : Went from start.args.t.now start.args.b.now start.args.out.now at l.loop-out.t-1 l.loop-out.out-1 l.loop-out.read l.loop-out.printed
+  abbrev went : Went from start.args.t.now start.args.b.now start.args.out.now at l.loop-out.t l.loop-out.out l.loop-out.read l.loop-out.printed
   went = l.loop-out.invariant.0
 
 -- what the record in the loop's body tells of the rest of the part
@@ -54,31 +54,31 @@ module _ (y : tie.After-work_record-x invariant-loop-out decreases-loop-out) whe
   b = (start l).args.b.now
 
   abbrev next : StepResult
-  next = ran_to (state_with (start l).args.settings (start l).args.listed y.work_record-x.result.live (start l).args.endpoints.now (start l).args.owners.now y.work_record-x.last.1.1.1.1.1.0 y.work_record-x.last.1.1.1.1.1.1.0 (start l).args.regions.now y.work_record-x.last.1.1.1.1.1.1.1.1.0 y.work_record-x.last.1.1.1.1.1.1.1.1.1.0 y.work_record-x.last.1.1.1.1.1.1.1.1.1.1.0 y.work_record-x.last.1.1.1.1.1.1.1.1.1.1.1.0 y.work_record-x.last.1.1.1.1.1.1.1.1.1.1.1.1.0 y.work_record-x.last.1.1.1.1.1.1.1.1.1.1.1.1.1.0) y.work_record-x.result
+  next = ran_to (state_with (start l).args.settings (start l).args.listed y.work_record-x.result.live (start l).args.endpoints.now (start l).args.owners.now y.work_record-x.new.attached y.work_record-x.new.domains (start l).args.regions.now y.work_record-x.new.logged y.work_record-x.new.lost y.work_record-x.new.reasons y.work_record-x.new.flags y.work_record-x.new.sources y.work_record-x.new.addresses) y.work_record-x.result
 
   abbrev words : List ℕ
-  words = y.work_record-x.last.1.1.1.1.1.1.1.1.1.1.1.1.1.1.0
+  words = y.work_record-x.new.t
 
   abbrev left : List ℕ
-  left = y.work_record-x.last.1.1.1.1.1.1.1.1.1.1.1.1.1.1.1.1.0
+  left = y.work_record-x.new.out
 
-  told : Matches next words l.loop-out.out-1 left l.loop-out.printed (step_record (at l) l.loop-out.t-1 (drop l.loop-out.read b))
+  told : Matches next words l.loop-out.out left l.loop-out.printed (step_record (at l) l.loop-out.t (drop l.loop-out.read b))
   told = rw (take_all (length b - l.loop-out.read) (drop l.loop-out.read b) (omega (arith, length-drop l.loop-out.read b))) at y.work_record-x.ensures
 
   reads : y.work_record-x.result.read ≤ length b - l.loop-out.read
-  reads = omega (arith, told.read, step-reads (at l) l.loop-out.t-1 (drop l.loop-out.read b), length-drop l.loop-out.read b)
+  reads = omega (arith, told.read, step-reads (at l) l.loop-out.t (drop l.loop-out.read b), length-drop l.loop-out.read b)
 
   same-words : length words ≡ length (start l).args.t.now
-  same-words = let e : length words ≡ length l.loop-out.t-1 = search rules in e ∙ l.loop-out.invariant.1
+  same-words = let e : length words ≡ length l.loop-out.t = search rules in e ∙ l.loop-out.invariant.1
 
   same_out : length left ≡ length (start l).args.out.now
-  same_out = let e : length left ≡ length l.loop-out.out-1 = search rules in e ∙ (went l).same
+  same_out = let e : length left ≡ length l.loop-out.out = search rules in e ∙ (went l).same
 
   room : record_room ≤ length (start l).args.out.now - l.loop-out.printed
   room = omega (arith, (went l).same)
 
   fits : l.loop-out.printed + y.work_record-x.result.printed ≤ length (start l).args.out.now
-  fits = fits_on (from l) (start l).args.t.now b (start l).args.out.now (at l) l.loop-out.t-1 l.loop-out.out-1 l.loop-out.read l.loop-out.printed (went l) (step_record (at l) l.loop-out.t-1 (drop l.loop-out.read b)) next words left told same_out
+  fits = fits_on (from l) (start l).args.t.now b (start l).args.out.now (at l) l.loop-out.t l.loop-out.out l.loop-out.read l.loop-out.printed (went l) (step_record (at l) l.loop-out.t (drop l.loop-out.read b)) next words left told same_out
 
 sub-loop : tie.Need-overflow_sub-out invariant-loop-out decreases-loop-out
 sub-loop c = let w = went c in omega (arith, w.same, w.fits)
@@ -110,7 +110,7 @@ same-length-2 c = same_out c.before.before.before.before.before.before.before.be
 returns : tie.Need-returns-then-x-eq0 invariant-loop-out decreases-loop-out
 returns c =
     let y = c.before.before.before.before.before.before.before.before in
-    rw (c.before.before.before.past-read.ensures, c.before.before.past-printed.ensures) (stops (from (l y)) (start (l y)).args.t.now (b y) (start (l y)).args.out.now (at (l y)) (l y).loop-out.t-1 (l y).loop-out.out-1 (l y).loop-out.read (l y).loop-out.printed (went (l y)) (room y) (next y) (words y) (left y) (told y) (same_out y) (omega arith))
+    rw (c.before.before.before.past-read.ensures, c.before.before.past-printed.ensures) (stops (from (l y)) (start (l y)).args.t.now (b y) (start (l y)).args.out.now (at (l y)) (l y).loop-out.t (l y).loop-out.out (l y).loop-out.read (l y).loop-out.printed (went (l y)) (room y) (next y) (words y) (left y) (told y) (same_out y) (omega arith))
 
 loop-less : tie.Need-loop-out-smaller invariant-loop-out decreases-loop-out
 loop-less c = let y = c.before.before.before.before.before.before.before.before in omega (arith, c.before.before.before.past-read.ensures, reads y, (went (l y)).within)
@@ -118,9 +118,9 @@ loop-less c = let y = c.before.before.before.before.before.before.before.before 
 loop-again : tie.Need-loop-out-preserved invariant-loop-out decreases-loop-out
 loop-again c =
     let y = c.before.before.before.before.before.before.before.before in (
-      rw (c.before.before.before.past-read.ensures, c.before.before.past-printed.ensures) (goes_on (from (l y)) (start (l y)).args.t.now (b y) (start (l y)).args.out.now (at (l y)) (l y).loop-out.t-1 (l y).loop-out.out-1 (l y).loop-out.read (l y).loop-out.printed (went (l y)) (room y) (next y) (words y) (left y) (told y) (same_out y) (omega arith) (omega (arith, reads y, (went (l y)).within))),
+      rw (c.before.before.before.past-read.ensures, c.before.before.past-printed.ensures) (goes_on (from (l y)) (start (l y)).args.t.now (b y) (start (l y)).args.out.now (at (l y)) (l y).loop-out.t (l y).loop-out.out (l y).loop-out.read (l y).loop-out.printed (went (l y)) (room y) (next y) (words y) (left y) (told y) (same_out y) (omega arith) (omega (arith, reads y, (went (l y)).within))),
       same-words y,
-      stays-ready (at (l y)).state (l y).loop-out.t-1 (drop (l y).loop-out.read (b y)) (l y).loop-out.invariant.2 (told y),
+      stays-ready (at (l y)).state (l y).loop-out.t (drop (l y).loop-out.read (b y)) (l y).loop-out.invariant.2 (told y),
     )
 
 same-length-3 : tie.Need-shape_of-t invariant-loop-out decreases-loop-out
@@ -132,7 +132,7 @@ same-length-4 c = (went c.before).same
 returns-2 : tie.Need-returns invariant-loop-out decreases-loop-out
 returns-2 c =
     let l = c.before in
-    fills (from l) (start l).args.t.now (start l).args.b.now (start l).args.out.now (at l) l.loop-out.t-1 l.loop-out.out-1 l.loop-out.read l.loop-out.printed (went l) (omega (arith, (went l).same))
+    fills (from l) (start l).args.t.now (start l).args.b.now (start l).args.out.now (at l) l.loop-out.t l.loop-out.out l.loop-out.read l.loop-out.printed (went l) (omega (arith, (went l).same))
 
 pub work_records_spec : {M : Type 1} → statement M
 work_records_spec =

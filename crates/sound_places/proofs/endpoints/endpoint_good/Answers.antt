@@ -1,4 +1,3 @@
-use borrow.Author.Rules.{rules}
 use mathlib.Core.Bool.{and-true}
 use Rattle.sound_places.specs.Places.{endpoint_good}
 use Rattle.sound_places.proofs.endpoints.endpoint_good.Goals as goal

@@ -1,9 +1,6 @@
 use native.Mathlib.Omega.{arith}
-use borrow.Author.Rules.{rules}
-use Prim.Native.Nat.{◌-◌}
-use Rattle.laws.proofs.Rounds.{Tested, tested-none, tested-next, tested-all}
+use Rattle.laws.proofs.Rounds.{tested-none, tested-next, tested-all}
 use Rattle.rules.specs.Sizes.{max_endpoints}
-use Rattle.sound_places.specs.Places.{endpoint_place}
 use Rattle.sound_places.proofs.endpoints.endpoints_good.Goals as goal
 
 pub loop-i-preserved : goal.loop-i-preserved

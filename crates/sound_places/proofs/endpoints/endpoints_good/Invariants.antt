@@ -1,8 +1,6 @@
 use Rattle.sound_places.proofs.endpoints.endpoints_good.Given as goal
-use native.Mathlib.Omega.{arith}
-use borrow.Author.Rules.{rules}
 use Prim.Native.Nat.{◌-◌}
-use Rattle.laws.proofs.Rounds.{Tested, tested-none, tested-next, tested-all}
+use Rattle.laws.proofs.Rounds.{Tested}
 use Rattle.rules.specs.Sizes.{max_endpoints}
 use Rattle.sound_places.specs.Places.{endpoint_place}
 

@@ -1,11 +1,6 @@
 use native.Mathlib.Omega.{arith}
-use borrow.Author.Rules.{rules}
-use Prim.Native.Nat.{◌-◌}
-use lib.Dec.{ltb}
-use lib.ListN.{get_or}
-use Rattle.laws.proofs.Rounds.{Tested, tested-none, tested-next, tested-all}
+use Rattle.laws.proofs.Rounds.{tested-none, tested-next, tested-all}
 use Rattle.rules.specs.Sizes.{max_guests}
-use Rattle.sound_places.specs.Places.{guest_good}
 use Rattle.sound_places.proofs.guests.guests_good.Goals as goal
 
 pub loop-g-preserved : goal.loop-g-preserved

@@ -1,10 +1,8 @@
 use Rattle.sound_places.proofs.guests.guests_good.Given as goal
-use native.Mathlib.Omega.{arith}
-use borrow.Author.Rules.{rules}
 use Prim.Native.Nat.{◌-◌}
 use lib.Dec.{ltb}
 use lib.ListN.{get_or}
-use Rattle.laws.proofs.Rounds.{Tested, tested-none, tested-next, tested-all}
+use Rattle.laws.proofs.Rounds.{Tested}
 use Rattle.rules.specs.Sizes.{max_guests}
 use Rattle.sound_places.specs.Places.{guest_good}
 

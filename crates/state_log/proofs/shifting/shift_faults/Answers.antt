@@ -20,13 +20,13 @@ loop-i-preserved c =
       omega arith,
       omega arith,
       elim c.if-k-end.branch [
-          then-k-end w ↦
+        | then-k-end w ↦
             let t = shift_in a.g a.k c.loop-i.i c.loop-i.invariant.0 (omega arith) (omega arith) in
             (rw w.reasons-is (t _ _ v.0), rw w.flags-is (t _ _ v.1), rw w.sources-is (t _ _ v.2), rw w.addresses-is (t _ _ v.3))
         | else-k-end w ↦
             let t = shift-out a.g a.k c.loop-i.i c.loop-i.invariant.0 (omega arith) (omega arith) in
             (rw w.reasons-is (t _ _ v.0), rw w.flags-is (t _ _ v.1), rw w.sources-is (t _ _ v.2), rw w.addresses-is (t _ _ v.3))
-        ],
+      ],
     )
 
 pub returns : goal.returns

@@ -21,13 +21,13 @@ loop-i-preserved c =
       omega arith,
       c.loop-i.invariant.1,
       elim c.if-owners-i.branch [
-          then-owners-i w ↦
+        | then-owners-i w ↦
             let t = zero_in n a.g a.owners.now c.loop-i.i (omega arith) w.if-owners-i.true in
             (rw w.attached-is (t _ _ v.0), rw w.domains-is (t _ _ v.1))
         | else-owners-i w ↦
             let t = zero-out n a.g a.owners.now c.loop-i.i (omega arith) w.if-owners-i.false in
             (rw w.attached-is (t _ _ v.0), rw w.domains-is (t _ _ v.1))
-        ],
+      ],
     )
 
 pub returns : goal.returns
