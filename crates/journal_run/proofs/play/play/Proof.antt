@@ -45,7 +45,7 @@ module _ (l : tie.At-loop-out invariant-loop-out decreases-loop-out) where
   all_of = take_all (length start.args.s.now - l.loop-out.read) rest (omega (arith, length-drop l.loop-out.read start.args.s.now))
 
 -- the device runs, and state and table are sound
-on : (c : tie.Then-is_running invariant-loop-out decreases-loop-out) → let l = c.before.before.before.before in (l.loop-out.session.started && sound (device l.loop-out.session.state l.loop-out.t)) ≡ true
+on : (c : tie.Then-is_running invariant-loop-out decreases-loop-out) → let l = c.before.before.before in (l.loop-out.session.started && sound (device l.loop-out.session.state l.loop-out.t)) ≡ true
 on c = sym c.before.is_running.ensures ∙ c.if-is_running.true
 
 -- what the rest of the part tells that is worked with no test
@@ -64,13 +64,13 @@ module _ (y : tie.After-run-x invariant-loop-out decreases-loop-out) where
       let n = length l.loop-out.out - l.loop-out.printed in
       let m = length-drop l.loop-out.printed l.loop-out.out in
       let e : length (take n (drop l.loop-out.printed l.loop-out.out)) ≡ length (start l).args.out.now - l.loop-out.printed = rw (take_all n (drop l.loop-out.printed l.loop-out.out) (omega (arith, m))) (m ∙ rw (went l).same) in
-      tells-rest (rw (all_of l, e, runs l.loop-out.session (both_left l.loop-out.session.started _ (on y.before.before.before.before))) at y.run-x.ensures)
+      tells-rest (rw (all_of l, e, runs l.loop-out.session (both_left l.loop-out.session.started _ (on y.before.before.before.before.before))) at y.run-x.ensures)
 
   same-words : length y.run-x.new.t ≡ length (start l).args.t.now
   same-words = let e : length y.run-x.new.t ≡ length l.loop-out.t = search rules in e ∙ l.loop-out.invariant.1
 
   same_out : length left ≡ length (start l).args.out.now
-  same_out = same_len_mid l.loop-out.printed (length l.loop-out.out - l.loop-out.printed) l.loop-out.out y.run-x.new.out y.run-x.kept.1.1.1.0 ∙ (went l).same
+  same_out = same_len_mid l.loop-out.printed (length l.loop-out.out - l.loop-out.printed) l.loop-out.out y.run-x.new.out y.run-x.auto.out ∙ (went l).same
 
 sub-loop : tie.Need-overflow_sub-out invariant-loop-out decreases-loop-out
 sub-loop c = let w = went c in omega (arith, w.same, w.fits)
@@ -84,11 +84,11 @@ part-run-start c = let w = went c.before.before.before.before.before in omega (a
 sub-run-2 : tie.Need-slice_bounds-run-count-then-is_running invariant-loop-out decreases-loop-out
 sub-run-2 c = let w = went c.before.before.before.before.before.before in omega (arith, w.same, w.fits)
 
-part-run-start-2 : tie.Need-slice-bounds-run-start-2 invariant-loop-out decreases-loop-out
+part-run-start-2 : tie.Need-slice_bounds-run-start-then-is_running invariant-loop-out decreases-loop-out
 part-run-start-2 c = let w = went c.before.before.before.before.before.before in omega (arith, w.same, w.fits)
 
 run-requires : tie.Need-run-x-requires invariant-loop-out decreases-loop-out
-run-requires c κs = let i = c.before.before.before in both_right i.before.before.before.before.loop-out.session.started _ (on i)
+run-requires c κs = let i = c.before.before.before.before in both_right i.before.before.before.loop-out.session.started _ (on i)
 
 past-requires : tie.Need-past-requires invariant-loop-out decreases-loop-out
 past-requires c κs = let y = c.before.before.before.before.before in omega (arith, (told y).read, played-reads (length (start (l y)).args.out.now - (l y).loop-out.printed) (l y).loop-out.session (l y).loop-out.t (rest (l y)), length-drop (l y).loop-out.read (start (l y)).args.s.now, (went (l y)).within)
@@ -104,7 +104,7 @@ returns c =
 -- what the step in the loop's body tells of the rest of the part
 module _ (y : tie.After-step_record-x invariant-loop-out decreases-loop-out) where
   abbrev m : tie.At-loop-out invariant-loop-out decreases-loop-out
-  m = y.before.before.before.before.before.before.before.before
+  m = y.before.before.before.before.before.before.before
 
   turn-told : Matches y.step_record-x.result y.step_record-x.new.t m.loop-out.out y.step_record-x.new.out m.loop-out.printed (step_record m.loop-out.session m.loop-out.t (rest m))
   turn-told =
@@ -121,10 +121,10 @@ module _ (y : tie.After-step_record-x invariant-loop-out decreases-loop-out) whe
   turn-out = let e : length y.step_record-x.new.out ≡ length m.loop-out.out = search rules in e ∙ (went m).same
 
 sub-step-record : tie.Need-slice_bounds-step_record-count invariant-loop-out decreases-loop-out
-sub-step-record c = (went c.before.before.before.before.before).within
+sub-step-record c = (went c.before.before.before.before).within
 
 part-step-record-start : tie.Need-slice_bounds-step_record-start invariant-loop-out decreases-loop-out
-part-step-record-start c = let w = went c.before.before.before.before.before in omega (arith, w.within)
+part-step-record-start c = let w = went c.before.before.before.before in omega (arith, w.within)
 
 past-requires-3 : tie.Need-past-read-requires invariant-loop-out decreases-loop-out
 past-requires-3 c κs = let y = c.before.before.before.before.before in omega (arith, turn-read y, (went (m y)).within)

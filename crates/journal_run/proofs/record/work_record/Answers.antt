@@ -1,16 +1,25 @@
 use Prim.Native.Nat.{ℕ, ◌≤◌}
 use mathlib.Core.Path.{◌≡◌, ap, sym, ◌∙◌}
+use mathlib.Core.List.{List}
 use native.Mathlib.Omega.{arith}
 use mir.Syntax.{w64}
-use mir.Val.{Fits}
+use mir.Val.{Fits, Val}
+use denote.Laws.{Is}
+use denote.Struct.Declared.{row}
 use borrow.Author.Rules.{rules}
+use Rattle.rules.specs.declared.Settings.{Settings}
 use Rattle.rules.specs.declared.State.{State}
+use Rattle.rules.specs.contracts.Settings as declared-settings
 use Rattle.rules.specs.Configuration.{window_last}
 use Rattle.state_fields.specs.Assembled.{state_with}
 use Rattle.journal_session.specs.Steps.{step_of}
 use Rattle.journal_step.proofs.Reading.{works, front_fits, asks-few}
 use Rattle.journal_run.proofs.Running.{tells-stop, told-item, told-request, told-probe, told-access, told-reset, told-fetch}
 use Rattle.journal_run.proofs.record.work_record.Goals as goal
+
+-- the last addresses of the windows are numbers of 64 bits
+lasts_fit : (s : Settings) (vs : List Val) → Is (row declared-settings.the_type) s vs → (i : ℕ) → Fits w64 (window_last s i)
+lasts_fit s vs h i = search rules
 
 pub work_request-requires : goal.work_request-requires
 work_request-requires c = (front_fits c.args.b.now (ap works (sym c.front.ensures ∙ c.in-Request.is)), c.requires.record_room_in_bounds)
@@ -85,8 +94,7 @@ pub returns-in-AccessBy : goal.returns-in-AccessBy
 returns-in-AccessBy c =
     let a = c.args in
     let now : State = state_with a.settings a.listed a.live a.endpoints.now a.owners.now a.attached.now a.domains.now a.regions.now a.logged.now a.lost.now a.reasons.now a.flags.now a.sources.now a.addresses.now in
-    let fit : (i : ℕ) → Fits w64 (window_last a.settings i) = λ i. search rules in
-    let last-fits : (i : ℕ) → window_last a.settings i ≤ 18446744073709551615 = λ i. omega (arith, (fit i).fits) in
+    let last-fits : (i : ℕ) → window_last a.settings i ≤ 18446744073709551615 = λ i. omega (arith, (lasts_fit a.settings _ c.well_formed.0 i).fits) in
     told-access now a.t.now a.b.now c.requires.ready last-fits _ (sym c.front.ensures ∙ c.in-AccessBy.is) (c.work_access.ensures now)
 
 pub returns-in-Reset : goal.returns-in-Reset
