@@ -55,6 +55,9 @@ build wide_lengths -- wide_lengths.c driver.c requests.c shown.c
 build edges -- edges.c driver.c requests.c
 "$out/edges"
 
+build lookups -- lookups.c lookups_plan.c driver.c requests.c
+"$out/lookups"
+
 build stack -pthread -- stack.c stack_calls.c stack_devices.c driver.c requests.c
 "$out/stack"
 

@@ -20,9 +20,11 @@ impl Spread {
     }
 }
 
+/// In whole numbers, or with as many decimals as the format asks for.
 impl fmt::Display for Spread {
     fn fmt(&self, out: &mut fmt::Formatter) -> fmt::Result {
-        write!(out, "{:.0} ({:.0} to {:.0})", self.median, self.low, self.high)
+        let places = out.precision().unwrap_or(0);
+        write!(out, "{:.places$} ({:.places$} to {:.places$})", self.median, self.low, self.high)
     }
 }
 
@@ -48,5 +50,6 @@ mod tests {
         assert_eq!(Spread::of(&times), Spread { low: 3.0, median: 15.0, high: 27.0 });
         assert_eq!(Spread::of(&[7.0]), Spread { low: 7.0, median: 7.0, high: 7.0 });
         assert_eq!(Spread::of(&times).to_string(), "15 (3 to 27)");
+        assert_eq!(format!("{:.1}", Spread::of(&times)), "15.0 (3.0 to 27.0)");
     }
 }
