@@ -131,14 +131,15 @@ pub fn set_up(
     place_lists(endpoints, owners, &mut numbers, &mut holders);
     let reserved = placed_regions(endpoints.len(), regions);
     let kept = trim(settings);
-    let mut next = zero_state();
-    next.settings = kept;
-    next.listed = endpoints.len();
-    next.endpoints = numbers;
-    next.owners = holders;
-    next.regions = reserved;
     CallResult {
         answer: Answer::Done,
-        state: next,
+        state: State {
+            settings: kept,
+            listed: endpoints.len(),
+            endpoints: numbers,
+            owners: holders,
+            regions: reserved,
+            ..zero_state()
+        },
     }
 }

@@ -25,5 +25,5 @@ returns c =
     let a = c.args in
     set-up-done a.settings a.endpoints.now a.owners.now a.regions.now a.t.now c.if-t-ne-TABLE_WORDS.false x.result x.ensures
     _ c.clear.new.t (ap not c.if-not-is_good.false) c.clear.ensures
-    (start-fields a.settings a.endpoints.now a.owners.now a.regions.now c.zero_state-next.result m.result _ _ q.result
-    c.zero_state-next.ensures m.ensures p.ensures.0 p.ensures.1 q.ensures)
+    (start-fields a.settings a.endpoints.now a.owners.now a.regions.now c.zero_state-2.result m.result _ _ q.result
+    c.zero_state-2.ensures m.ensures p.ensures.0 p.ensures.1 q.ensures)
