@@ -1,5 +1,5 @@
 -- One advance of a program that reads a journal piece by piece: what it works, what it keeps and what it writes.
-use Rattle.std.specs.Prelude.{◌≡◌, ℕ, ◌+◌, ◌-◌, ◌%◌, ◌^◌, min, Bool, true, cond, ◌&&◌, ◌||◌, List, [], length, take, ◌==◌, nat_le}
+use Rattle.std.specs.Prelude.{◌≡◌, ℕ, ◌+◌, ◌-◌, ◌%◌, ◌^◌, min, Bool, true, cond, ◌&&◌, ◌||◌, List, [], leb, eqb, length, take}
 use Rattle.journal_text.specs.Placing.{line_room, placed}
 use Rattle.journal_line_plain.specs.Plain.{last_line}
 use Rattle.journal_session.specs.Steps.{RecordStep, fresh}
@@ -26,15 +26,15 @@ held_with p block got = min (p.held + got) (length block)
 
 -- how far the journal has come once the records x of the first h bytes of the block are worked. An offset is kept in 64 bits.
 abbrev pub progressed : Progress → ℕ → RecordStep → Progress
-progressed p h x = record { session = x.session; offset = (p.offset + x.read) % 2 ^ 64; held = h - x.read; wants = (x.read == 0) }
+progressed p h x = record { session = x.session; offset = (p.offset + x.read) % 2 ^ 64; held = h - x.read; wants = eqb x.read 0 }
 
 -- no record was worked, and none will be: the journal is bad here, or bytes were wanted and there are no more
 abbrev pub is_over : Progress → ℕ → RecordStep → Bool
-is_over p got x = x.read == 0 && (x.bad || (p.wants && got == 0))
+is_over p got x = eqb x.read 0 && (x.bad || (p.wants && eqb got 0))
 
 -- the last line of a journal that ends so, where the buffer has room for a line
 abbrev pub last_in : ℕ → Progress → List ℕ
-last_in room p = cond (nat_le line_room room) (last_line p.held p.offset) []
+last_in room p = cond (leb line_room room) (last_line p.held p.offset) []
 
 -- what is left once the records x of the first h bytes of the block are worked
 abbrev pub leaving : ℕ → Progress → List ℕ → ℕ → ℕ → RecordStep → Advance

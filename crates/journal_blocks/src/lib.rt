@@ -13,7 +13,7 @@ use journal_session::session::Session;
 
 // How far a journal has come: where in it the first byte held stands, how many bytes are held at the front of the block, and
 // whether more are wanted behind them before the next advance.
-#[derive(Drop)]
+#[derive(Clone, Copy)]
 pub struct Progress {
     pub session: Session,
     pub offset: u64,
@@ -22,7 +22,7 @@ pub struct Progress {
 }
 
 // What an advance leaves: the progress, how many bytes at the front of the buffer are to be written, and whether they are the last.
-#[derive(Drop)]
+#[derive(Clone, Copy)]
 pub struct Advanced {
     pub progress: Progress,
     pub printed: usize,

@@ -10,7 +10,7 @@ use rules::{Access, DomainRange, Endpoint, Guest, InputRange, Region};
 use wire_numbers::fields::field_at;
 
 // A guest: its share, and its window's first and last address.
-#[derive(Drop)]
+#[derive(Clone, Copy)]
 pub struct GuestFields {
     pub share: u32,
     pub first: u64,
@@ -18,7 +18,7 @@ pub struct GuestFields {
 }
 
 // A start: the mask, the input range and the domain range.
-#[derive(Drop)]
+#[derive(Clone, Copy)]
 pub struct StartFields {
     pub mask: u64,
     pub input: InputRange,
@@ -26,7 +26,7 @@ pub struct StartFields {
 }
 
 // A record; a request's bytes stay in the journal.
-#[derive(Drop)]
+#[derive(Clone, Copy)]
 pub enum Item {
     // The record is not all there.
     Cut,

@@ -29,7 +29,7 @@ use rules::{Access, Guest, Settings};
 
 // What records leave besides the lent arrays: how many mappings are live, the bytes read (0 where no record is worked) and
 // printed, and whether the journal is bad there.
-#[derive(Drop)]
+#[derive(Clone, Copy)]
 pub struct RunStep {
     pub live: usize,
     pub read: usize,

@@ -10,7 +10,7 @@ use crate::text::digit;
 const DECIMAL_ROOM: usize = 21;
 
 // The text at the end of the bytes, from place `from` on.
-#[derive(Drop)]
+#[derive(Clone, Copy)]
 pub struct Decimal {
     pub bytes: [u8; DECIMAL_ROOM],
     pub from: usize,

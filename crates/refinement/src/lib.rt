@@ -8,21 +8,21 @@
 use rules::{Answer, State};
 
 // What a call gives back: its answer, and the next state.
-#[derive(Drop)]
+#[derive(Clone, Copy)]
 pub struct CallResult {
     pub answer: Answer,
     pub state: State,
 }
 
 // What a call on lent arrays gives back: its answer, and how many records are live after it.
-#[derive(Drop)]
+#[derive(Clone, Copy)]
 pub struct LentResult {
     pub answer: Answer,
     pub live: usize,
 }
 
 // A request's status, and how many records are live after it.
-#[derive(Drop)]
+#[derive(Clone, Copy)]
 pub struct HandlerResult {
     pub status: u8,
     pub live: usize,

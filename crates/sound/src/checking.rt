@@ -11,7 +11,7 @@ use rules::sizes::{FAULT_PLACES, MAX_ENDPOINTS, MAX_GUESTS, REGION_PLACES};
 use rules::{Guest, Refusal, Settings};
 
 // What the test before a guest's job gives: the job may be worked, or is refused.
-#[derive(Drop)]
+#[derive(Clone, Copy)]
 pub enum Checked {
     Passed,
     Refused(Refusal),

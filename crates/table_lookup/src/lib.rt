@@ -10,7 +10,7 @@ use rules::{Access, Mapping};
 use table_record::{bounded, get};
 
 // What a lookup gives.
-#[derive(Drop)]
+#[derive(Clone, Copy)]
 pub enum Found {
     // The first record that permits the access.
     At(Mapping),

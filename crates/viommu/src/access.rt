@@ -8,7 +8,7 @@ use rules::{Access, Endpoint, State};
 
 // An access's number, address and next state.
 #[repr(C)]
-#[derive(Drop)]
+#[derive(Clone, Copy)]
 pub struct AccessGiven {
     pub state: State,
     pub number: u8,

@@ -8,7 +8,7 @@ use rules::{Guest, State};
 
 // A fetch's number, count and next state.
 #[repr(C)]
-#[derive(Drop)]
+#[derive(Clone, Copy)]
 pub struct FetchGiven {
     pub state: State,
     pub number: u8,

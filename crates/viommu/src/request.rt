@@ -8,7 +8,7 @@ use rules::{Guest, State};
 
 // A request's number, used length and next state.
 #[repr(C)]
-#[derive(Drop)]
+#[derive(Clone, Copy)]
 pub struct RequestGiven {
     pub state: State,
     pub number: u8,

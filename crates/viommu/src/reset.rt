@@ -8,7 +8,7 @@ use rules::{Guest, State};
 
 // A reset's number and next state.
 #[repr(C)]
-#[derive(Drop)]
+#[derive(Clone, Copy)]
 pub struct ResetGiven {
     pub state: State,
     pub number: u8,

@@ -9,7 +9,7 @@ use rules::{Settings, State};
 
 // A set-up's number and state.
 #[repr(C)]
-#[derive(Drop)]
+#[derive(Clone, Copy)]
 pub struct SetUpGiven {
     pub state: State,
     pub number: u8,

@@ -9,7 +9,7 @@ use rules::{Domain, Endpoint, Refusal};
 use wire_numbers::fields::field_at;
 
 // What a MAP asks for besides its domain.
-#[derive(Drop)]
+#[derive(Clone, Copy)]
 pub struct MapFields {
     pub start: u64,
     pub end: u64,
@@ -18,7 +18,7 @@ pub struct MapFields {
 }
 
 // What an UNMAP asks for besides its domain.
-#[derive(Drop)]
+#[derive(Clone, Copy)]
 pub struct UnmapFields {
     pub start: u64,
     pub end: u64,
@@ -26,7 +26,7 @@ pub struct UnmapFields {
 }
 
 // A request: refused, or its fields.
-#[derive(Drop)]
+#[derive(Clone, Copy)]
 pub enum Request {
     Refused(Refusal),
     // The third field is the reserved one.
