@@ -1,0 +1,4 @@
+pub mod Halved
+pub mod Halves
+pub mod Outcomes
+mod Passing

@@ -1,0 +1,18 @@
+-- Laws of a record that passes a test.
+use mathlib.Core.Path.{◌≡◌}
+use mathlib.Core.Bool.{Bool, true, false}
+use Rattle.rules.specs.declared.Mapping.{Mapping}
+use Rattle.table_lookup.specs.declared.Found.{Found}
+use Rattle.table_lookup.specs.declared.Found.TheVariants.{At, Nothing}
+use Rattle.table_lookup.specs.Outcomes.{found_of}
+use Rattle.table_halving.specs.Outcomes.{option_of}
+use Rattle.table_halving.specs.Lookup.{passing}
+
+module _ (q : Mapping → Bool) (f : Found) (r : Mapping) (e : f ≡ At r) where
+  pub passes : q r ≡ true → At r ≡ found_of (passing q (option_of f))
+  unfolding found_of option_of passing
+  passes h = rw (e, h)
+
+  pub fails : q r ≡ false → Nothing ≡ found_of (passing q (option_of f))
+  unfolding found_of option_of passing
+  fails h = rw (e, h)

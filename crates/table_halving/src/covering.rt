@@ -1,0 +1,51 @@
+// Whether the record found lets an access through.
+ghost use Rattle.std.specs.Prelude.{◌≡◌};
+ghost use Rattle.rules.specs.Access as access;
+ghost use Rattle.table_lookup.specs.Outcomes.{found_of};
+ghost use Rattle.table_halving.specs.Outcomes.{option_of};
+ghost use Rattle.table_halving.specs.Lookup.{covers, flagged, passing};
+
+use rules::Mapping;
+use table_lookup::Found;
+
+// Whether the flags have the one that an access of this kind asks for.
+fn has_flag(kind: u8, flags: u64) -> bool
+    ensures { result ≡ access.has_flag kind flags }
+{
+    if kind == 0 {
+        flags % 2 == 1
+    } else {
+        flags / 2 % 2 == 1
+    }
+}
+
+// Whether r is of the key's domain and covers the address.
+fn is_covering(r: Mapping, key: u64, address: u64) -> bool
+    ensures { result ≡ covers key address r }
+{
+    (r.key == key) & ((r.start <= address) & (address <= r.end))
+}
+
+// The record found, where it is of the key's domain and covers the address.
+pub(crate) fn if_covering(found: Found, key: u64, address: u64) -> Found
+    ensures { result ≡ found_of (passing (covers key address) (option_of found)) }
+{
+    if let Found::At(r) = found {
+        if is_covering(r, key, address) {
+            return found;
+        }
+    }
+    Found::Nothing
+}
+
+// The record found, where it has the flag that an access of this kind asks for.
+pub(crate) fn if_flagged(found: Found, kind: u8) -> Found
+    ensures { result ≡ found_of (passing (flagged kind) (option_of found)) }
+{
+    if let Found::At(r) = found {
+        if has_flag(kind, r.flags) {
+            return found;
+        }
+    }
+    Found::Nothing
+}
