@@ -1,4 +1,5 @@
 pub mod Halved
 pub mod Halves
+pub mod InOrder
 pub mod Outcomes
 mod Passing

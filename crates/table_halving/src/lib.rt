@@ -1,4 +1,5 @@
-// The lookup of a mapping by halving, where the records are in order.
+// The lookup of a mapping by halving, with a count of the records that it reads. Where the records are in order it finds what
+// table_lookup's finds, which goes through them one by one and holds for every table. No other crate calls this one.
 #![tactic(auto)]
 
 mod covering;
