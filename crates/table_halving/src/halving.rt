@@ -9,7 +9,7 @@ use rules::sizes::RECORD_WORDS;
 use table_record::bounded;
 
 // The place of a record by its first word, and how many records were read to find it.
-#[derive(Drop)]
+#[derive(Clone, Copy)]
 pub(crate) struct Place {
     pub(crate) word: usize,
     pub(crate) reads: usize,

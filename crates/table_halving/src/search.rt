@@ -10,7 +10,7 @@ use rules::sizes::RECORD_WORDS;
 use table_lookup::Found;
 
 // What a search gives, and how many records it has read.
-#[derive(Drop)]
+#[derive(Clone, Copy)]
 pub struct Searched {
     pub found: Found,
     pub reads: usize,
