@@ -5,6 +5,7 @@ pub mod State
 pub mod Guests
 pub mod Answers
 pub mod Requests
+pub mod Failures
 pub mod Handlers
 pub mod Access
 pub mod Sound

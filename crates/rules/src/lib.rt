@@ -8,17 +8,17 @@ use sizes::{FAULT_PLACES, MAX_ENDPOINTS, MAX_GUESTS, REGION_PLACES};
 
 // A guest's number, below the guest count.
 #[repr(C)]
-#[derive(Clone, Copy)]
+#[derive(Clone, Copy, PartialEq, Eq)]
 pub struct Guest(pub u8);
 
 // An endpoint's number: a device, as the bus names it.
 #[repr(C)]
-#[derive(Clone, Copy)]
+#[derive(Clone, Copy, PartialEq, Eq)]
 pub struct Endpoint(pub u32);
 
 // A domain's number. Each guest has domains of its own.
 #[repr(C)]
-#[derive(Clone, Copy)]
+#[derive(Clone, Copy, PartialEq, Eq)]
 pub struct Domain(pub u32);
 
 // The addresses, or the domain numbers, from start to end, both included.
@@ -51,7 +51,7 @@ pub struct Settings {
 
 // A reserved region of an endpoint, which no mapping may meet: subtype 0 is reserved, 1 is MSI.
 #[repr(C)]
-#[derive(Clone, Copy)]
+#[derive(Clone, Copy, Default)]
 pub struct Region {
     pub subtype: u64,
     pub start: u64,
@@ -83,7 +83,7 @@ pub struct State {
 // A mapping record, the five words of the table: key is guest times 2^32 plus domain, start and end are virt_start and
 // virt_end, phys is phys_start.
 #[repr(C)]
-#[derive(Clone, Copy)]
+#[derive(Clone, Copy, Default)]
 pub struct Mapping {
     pub key: u64,
     pub start: u64,
