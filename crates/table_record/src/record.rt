@@ -36,13 +36,7 @@ pub fn get(t: &[u64], i: usize) -> Mapping
     if i < t.len() / RECORD_WORDS {
         return read(t, i);
     }
-    Mapping {
-        key: 0,
-        start: 0,
-        end: 0,
-        phys: 0,
-        flags: 0,
-    }
+    Mapping::default()
 }
 
 // The smaller of live and the number of whole records.
@@ -50,5 +44,5 @@ pub fn bounded(t: &[u64], live: usize) -> usize
     ensures { (result ≡ length (take live (records t.now))) × (result ≤ length (records t.now)) × (record_words * result ≤ length t.now) }
 {
     let whole = t.len() / RECORD_WORDS;
-    if live < whole { live } else { whole }
+    live.min(whole)
 }
