@@ -4,5 +4,5 @@
 mod form;
 mod runs;
 
-pub use form::{form_status, opens};
+pub use form::{Limits, check_form, opens};
 pub use runs::run_end;
