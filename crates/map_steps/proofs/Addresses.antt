@@ -20,7 +20,7 @@ use Rattle.rules.specs.Requests.{OK}
 use Rattle.rules.specs.Failures.{failure_status, outcome_status}
 use Rattle.rules.specs.Handlers.{status_of, outside, granularity, aligned, form_chain, form_steps}
 use Rattle.rules.proofs.Chains.{status-passes}
-use Rattle.map_steps.specs.declared.form.Limits.{Limits}
+use Rattle.map_steps.specs.declared.limits.Limits.{Limits}
 use Rattle.map_steps.specs.Forms.{limits_of, form_good}
 
 pub trailing_lt : (k n : ℕ) → 0 < n → n < 2 ^ k → count_trailing_zeros k n < k

@@ -3,10 +3,12 @@ use Rattle.std.specs.Prelude.{ℕ, suc, Bool, cond, ◌&&◌, List, [], ◌∷�
 use Rattle.laws.specs.Lists.{first_failing}
 use Rattle.rules.specs.declared.InputRange.{InputRange}
 use Rattle.rules.specs.declared.Mapping.{Mapping}
+use Rattle.rules.specs.declared.Settings.{Settings}
+use Rattle.rules.specs.Configuration.{window_first, window_last}
 use Rattle.rules.specs.Guests.{Own}
 use Rattle.rules.specs.Handlers.{form_steps}
 use Rattle.rules.specs.Sound.{guest, passes}
-use Rattle.map_steps.specs.declared.form.Limits.{Limits}
+use Rattle.map_steps.specs.declared.limits.Limits.{Limits}
 
 -- a guest's limits alone: what steps 2 to 6 of MAP look at
 abbrev pub limits : ℕ → InputRange → ℕ → ℕ → Own
@@ -16,6 +18,10 @@ limits mask input first last =
 -- and as the code gives them
 abbrev pub limits_of : Limits → Own
 limits_of l = limits l.mask l.input l.first l.last
+
+-- those of the guest with number g
+abbrev pub limits_at : Settings → ℕ → Limits
+limits_at s g = record { mask = s.mask; input = s.input; first = window_first s g; last = window_last s g }
 
 -- steps 2 to 6 of MAP pass, within these limits
 unfoldable pub form_good : Limits → Mapping → Bool

@@ -4,21 +4,13 @@ ghost use Rattle.rules.specs.Failures.{outcome_status};
 ghost use Rattle.rules.specs.Handlers.{status_of, aligned, form_steps};
 ghost use Rattle.map_steps.specs.Forms.{limits_of, form_good};
 
+use crate::limits::Limits;
+use rules::Mapping;
 use rules::requests::Failure;
 use rules::sizes::TOP_ADDRESS;
-use rules::{InputRange, Mapping};
 
 // The highest flags that a record may have.
 const TOP_FLAGS: u64 = 3;
-
-// What steps 2 to 6 of MAP ask of a guest's configuration: the mask, the input range, and the window from first to last.
-#[derive(Clone, Copy)]
-pub struct Limits {
-    pub mask: u64,
-    pub input: InputRange,
-    pub first: u64,
-    pub last: u64,
-}
 
 // Whether start and phys are multiples of the mask's lowest set bit, and end one less than a multiple; where no bit is set,
 // whether start and phys are the first address there is, and end the last.

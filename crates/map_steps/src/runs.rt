@@ -3,7 +3,8 @@ ghost use Rattle.std.specs.Prelude.{◌≡◌, ◌+◌, take, drop};
 ghost use Rattle.rules.specs.Table.{records};
 ghost use Rattle.map_steps.specs.Forms.{form_good, run};
 
-use crate::form::{Limits, form_good};
+use crate::form::form_good;
+use crate::limits::Limits;
 
 // The place at which the records from place `from` on no longer go on with a domain: each is of its key, stands past the
 // end of the one before, and passes steps 2 to 6 of MAP.
