@@ -1,5 +1,5 @@
 // One record of the table.
-ghost use Rattle.std.specs.Prelude.{◌≡◌, ◌+◌, ◌*◌, ◌<◌, ◌≤◌, length, get_or, take};
+ghost use Rattle.std.specs.Prelude.{◌≡◌, cond, ◌+◌, ◌*◌, ◌<◌, ◌≤◌, leb, length, get_or, take};
 ghost use Rattle.rules.specs.Sizes.{record_words};
 ghost use Rattle.rules.specs.Table.{records};
 ghost use Rattle.table_record.specs.Records.{no_mapping, loaded};
@@ -37,6 +37,19 @@ pub fn get(t: &[u64], i: usize) -> Mapping
         return read(t, i);
     }
     Mapping::default()
+}
+
+// The record in the five words from at on, and five zeros where the table does not have them all.
+pub fn get_at(t: &[u64], at: usize) -> Mapping
+    ensures { result ≡ cond (leb (at + record_words) (length t.now)) (loaded t.now at) no_mapping }
+{
+    if t.len() < RECORD_WORDS {
+        return Mapping::default();
+    }
+    if t.len() - RECORD_WORDS < at {
+        return Mapping::default();
+    }
+    load(t, at)
 }
 
 // The smaller of live and the number of whole records.
