@@ -1,4 +1,5 @@
 use native.Mathlib.Omega.{arith}
+use borrow.Author.Rules.{rules}
 use Rattle.laws.proofs.Rounds.{tested-none, tested-next, tested-all}
 use Rattle.rules.specs.Sizes.{max_guests}
 use Rattle.sound_places.proofs.guests.guests_good.Goals as goal
@@ -9,7 +10,9 @@ loop-g-preserved c =
     tested-next max_guests _ l.ok c.guest_good-ok.result l.g l.invariant (omega arith) c.guest_good-ok.ensures
 
 pub returns : goal.returns
-returns c = let l = c.loop-g in tested-all max_guests _ l.ok l.g l.invariant (omega arith)
+returns c =
+    let l = c.loop-g in
+    record { value = tested-all max_guests _ l.ok l.g l.invariant (omega arith); lengths = (search rules, search rules, search rules) }
 
 pub loop-g-init : goal.loop-g-init
 loop-g-init c =
