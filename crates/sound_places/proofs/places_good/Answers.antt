@@ -5,14 +5,6 @@ use Rattle.rules.specs.Sizes.{max_guests, max_endpoints}
 use Rattle.sound_places.proofs.Places.{places-are}
 use Rattle.sound_places.proofs.places_good.Goals as goal
 
-pub returns-then-s-gt-MAX_GUESTS : goal.returns-then-s-gt-MAX_GUESTS
-returns-then-s-gt-MAX_GUESTS c = rw (lt-leb c.args.s.now.settings.guests max_guests (omega arith))
-
-pub returns-then-s-gt-MAX_ENDPOINTS : goal.returns-then-s-gt-MAX_ENDPOINTS
-returns-then-s-gt-MAX_ENDPOINTS c =
-    let s = c.args.s.now in
-    rw (le-leb s.settings.guests max_guests (omega arith), lt-leb s.listed max_endpoints (omega arith))
-
 pub returns : goal.returns
 returns c =
     let s = c.args.s.now in

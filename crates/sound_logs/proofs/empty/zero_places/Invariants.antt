@@ -8,12 +8,12 @@ use lib.Dec.{eqb}
 use lib.ListN.{get_or}
 use Rattle.laws.proofs.Rounds.{Tested, tested-none, tested-next, tested-all}
 use Rattle.rules.specs.Sound.{fault_zero}
-use Rattle.sound_logs.specs.Faults.{fault_in}
+use Rattle.rules.specs.State.{fault_at}
 use Rattle.sound_logs.proofs.NoFaults.{zero-round}
 
 abbrev pub invariant-loop-j : goal.invariant-loop-j
 invariant-loop-j l =
-    Tested l.n (λ k. fault_zero (fault_in l.reasons l.flags l.sources l.addresses (l.first + k))) (eqb l.narrow 0 && eqb l.broad 0) l.j
+    Tested l.n (λ k. fault_zero (fault_at l.s (l.first + k))) (eqb l.narrow 0 && eqb l.broad 0) l.j
 
 abbrev pub decreases-loop-j : goal.decreases-loop-j
 decreases-loop-j l = l.n - l.j

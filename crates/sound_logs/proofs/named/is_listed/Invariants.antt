@@ -14,7 +14,7 @@ use Rattle.laws.proofs.Owned.{owned-on, owned-end}
 abbrev pub invariant-loop-j : goal.invariant-loop-j
 invariant-loop-j l =
     (l.j ≤ max_endpoints)
-    × (any? (eqb l.number) (pick_by l.guest l.owners l.endpoints) ≡ (l.found || any? (eqb l.number) (pick_by l.guest (drop l.j l.owners) (drop l.j l.endpoints))))
+    × (any? (eqb l.number) (pick_by l.guest l.owners l.s.endpoints) ≡ (l.found || any? (eqb l.number) (pick_by l.guest (drop l.j l.owners) (drop l.j l.s.endpoints))))
 
 abbrev pub decreases-loop-j : goal.decreases-loop-j
 decreases-loop-j l = max_endpoints - l.j

@@ -15,9 +15,9 @@ pub loop-j-preserved : goal.loop-j-preserved
 unfolding owner_among
 loop-j-preserved c =
     let a = c.args in
-    (omega arith, refl, written-store (owner_among a.n a.owners.now) _ c.loop-j.j c.loop-j.out c.owner_or_none.result c.loop-j.invariant.2 (omega arith) c.owner_or_none.ensures)
+    (omega arith, refl, written-store (owner_among a.s.now.listed a.s.now.owners) _ c.loop-j.j c.loop-j.out c.owner_or_none.result c.loop-j.invariant.2 (omega arith) c.owner_or_none.ensures)
 
 pub returns : goal.returns
 returns c =
     let a = c.args in
-    written_all (owner_among a.n a.owners.now) _ max_endpoints c.loop-j.j c.loop-j.out refl (omega arith) c.loop-j.invariant.2
+    written_all (owner_among a.s.now.listed a.s.now.owners) _ max_endpoints c.loop-j.j c.loop-j.out refl (omega arith) c.loop-j.invariant.2

@@ -8,9 +8,6 @@ loop-i-preserved c =
     let l = c.loop-i in
     tested-next max_endpoints _ l.ok c.endpoint_good-ok.result l.i l.invariant (omega arith) c.endpoint_good-ok.ensures
 
-pub returns : goal.returns
-returns c = let l = c.loop-i in tested-all max_endpoints _ l.ok l.i l.invariant (omega arith)
-
 pub loop-i-init : goal.loop-i-init
 loop-i-init c =
     tested-none max_endpoints _

@@ -9,11 +9,6 @@ loop-g-preserved c =
     let l = c.loop-g in
     tested-next max_guests _ l.ok c.guest_good-ok.result l.g l.invariant (omega arith) c.guest_good-ok.ensures
 
-pub returns : goal.returns
-returns c =
-    let l = c.loop-g in
-    record { value = tested-all max_guests _ l.ok l.g l.invariant (omega arith); lengths = (search rules, search rules, search rules) }
-
 pub loop-g-init : goal.loop-g-init
 loop-g-init c =
     tested-none max_guests _
