@@ -12,57 +12,42 @@ use rules::sizes::{MAX_ENDPOINTS, MAX_GUESTS};
 use rules::{Endpoint, Guest, Region};
 
 // A guest is named, unless it is the fifth or the journal has started.
-pub fn guest(p: Session, s: &[u8], f: GuestFields) -> StepResult
-    ensures { (t out : List ℕ) (k : ℕ) → Matches result t out out k (step_of p t s.now (NamedGuest f)) }
+pub fn guest(p: &mut Session, s: &[u8], f: GuestFields) -> StepResult
+    ensures { (t out : List ℕ) (k : ℕ) → Matches p.new result t out out k (step_of p.old t s.now (NamedGuest f)) }
 {
-    let state = p.state;
-    let settings = state.settings;
     if p.started {
-        return unread(p, true);
+        return unread(true);
     }
-    if settings.guests >= MAX_GUESTS {
-        return unread(p, true);
+    if p.state.settings.guests >= MAX_GUESTS {
+        return unread(true);
     }
-    let mut next = state;
-    next.settings = naming::name_guest(settings, f);
-    consumed(false, next, journal_records::size_of(s), 0)
+    naming::name_guest(&mut p.state.settings, f);
+    consumed(journal_records::size_of(s), 0)
 }
 
 // An endpoint is named, unless it is the 33rd or the journal has started.
-pub fn endpoint(p: Session, s: &[u8], e: Endpoint, g: Guest) -> StepResult
-    ensures { (t out : List ℕ) (k : ℕ) → Matches result t out out k (step_of p t s.now (NamedEndpoint e g)) }
+pub fn endpoint(p: &mut Session, s: &[u8], e: Endpoint, g: Guest) -> StepResult
+    ensures { (t out : List ℕ) (k : ℕ) → Matches p.new result t out out k (step_of p.old t s.now (NamedEndpoint e g)) }
 {
-    let state = p.state;
     if p.started {
-        return unread(p, true);
+        return unread(true);
     }
-    if state.listed >= MAX_ENDPOINTS {
-        return unread(p, true);
+    if p.state.listed >= MAX_ENDPOINTS {
+        return unread(true);
     }
-    let mut endpoints = state.endpoints;
-    let mut owners = state.owners;
-    naming::name_endpoint(&mut endpoints, &mut owners, state.listed, e, g);
-    let mut next = state;
-    next.listed = state.listed + 1;
-    next.endpoints = endpoints;
-    next.owners = owners;
-    consumed(false, next, journal_records::size_of(s), 0)
+    naming::name_endpoint(&mut p.state, e, g);
+    consumed(journal_records::size_of(s), 0)
 }
 
 // A region of an endpoint is named, unless the endpoint is not yet, it is the endpoint's fifth or the journal has started.
-pub fn region(p: Session, s: &[u8], e: Endpoint, q: Region) -> StepResult
-    ensures { (t out : List ℕ) (k : ℕ) → Matches result t out out k (step_of p t s.now (NamedRegion e q)) }
+pub fn region(p: &mut Session, s: &[u8], e: Endpoint, q: Region) -> StepResult
+    ensures { (t out : List ℕ) (k : ℕ) → Matches p.new result t out out k (step_of p.old t s.now (NamedRegion e q)) }
 {
-    let state = p.state;
     if p.started {
-        return unread(p, true);
+        return unread(true);
     }
-    let endpoints = state.endpoints;
-    let mut regions = state.regions;
-    if !naming::name_region(state.listed, &endpoints, &mut regions, e, q) {
-        return unread(p, true);
+    if !naming::name_region(&mut p.state, e, q) {
+        return unread(true);
     }
-    let mut next = state;
-    next.regions = regions;
-    consumed(false, next, journal_records::size_of(s), 0)
+    consumed(journal_records::size_of(s), 0)
 }

@@ -1,16 +1,14 @@
-// What a record leaves.
+// What a record leaves beside the session.
 ghost use Rattle.std.specs.Prelude.{◌≡◌, false};
 ghost use Rattle.journal_session.specs.Matching.{step_result};
 
-use crate::session::{Session, StepResult};
-use rules::State;
+use crate::session::StepResult;
 
 // No record is worked.
-pub fn unread(p: Session, bad: bool) -> StepResult
-    ensures { result ≡ step_result p 0 0 bad }
+pub fn unread(bad: bool) -> StepResult
+    ensures { result ≡ step_result 0 0 bad }
 {
     StepResult {
-        session: p,
         read: 0,
         printed: 0,
         bad,
@@ -18,11 +16,10 @@ pub fn unread(p: Session, bad: bool) -> StepResult
 }
 
 // A record of n bytes is worked, and k bytes are printed.
-pub fn consumed(started: bool, state: State, n: usize, k: usize) -> StepResult
-    ensures { result ≡ step_result (record { started = started; state = state }) n k false }
+pub fn consumed(n: usize, k: usize) -> StepResult
+    ensures { result ≡ step_result n k false }
 {
     StepResult {
-        session: Session { started, state },
         read: n,
         printed: k,
         bad: false,

@@ -15,10 +15,10 @@ pub struct Session {
     pub state: State,
 }
 
-// What records leave: the session, the bytes read (0 where no record is worked) and printed, and whether the journal is bad there.
+// What records leave beside the session: the bytes read (0 where no record is worked) and printed, and whether the journal is bad
+// there.
 #[derive(Clone, Copy)]
 pub struct StepResult {
-    pub session: Session,
     pub read: usize,
     pub printed: usize,
     pub bad: bool,

@@ -9,14 +9,19 @@ use lib.Count.{count_trailing_zeros, under}
 use lib.Dec.{leb, ltb, eqb}
 use lib.Pow.{shl_exact}
 use borrow.Author.Tests.{ltb-false, leb-true, eq-eqb, ne_eqb, le-ltb, le-leb, lt-leb}
+use Rattle.std.specs.Prelude.{Result, Ok, Err}
+use Rattle.std.specs.Result.{is_ok}
 use Rattle.laws.proofs.Tests.{or_left, or_right, or-none, not-both, not-leb, same_test}
 use Rattle.rules.specs.Sizes.{top_address}
-use Rattle.rules.specs.declared.InputRange.{InputRange}
 use Rattle.rules.specs.declared.Mapping.{Mapping}
+use Rattle.rules.specs.declared.requests.Failure.{Failure}
+use Rattle.rules.specs.declared.requests.Failure.TheVariants.{Unsupp, Deverr, Inval, Range, Noent, Fault, Nomem}
 use Rattle.rules.specs.Requests.{OK}
+use Rattle.rules.specs.Failures.{failure_status, outcome_status}
 use Rattle.rules.specs.Handlers.{status_of, outside, granularity, aligned, form_chain, form_steps}
 use Rattle.rules.proofs.Chains.{status-passes}
-use Rattle.map_steps.specs.Forms.{limits, form_good}
+use Rattle.map_steps.specs.declared.limits.Limits.{Limits}
+use Rattle.map_steps.specs.Forms.{limits_of, form_good}
 
 pub trailing_lt : (k n : ℕ) → 0 < n → n < 2 ^ k → count_trailing_zeros k n < k
 unfolding count_trailing_zeros
@@ -78,19 +83,30 @@ window-out first last p a b h = rw (le-leb a b h, not-both (leb first p) (leb (p
 
 -- STEPS 2 TO 6
 
-module _ (mask : ℕ) (input : InputRange) (first last : ℕ) (r : Mapping) where
-  -- of no addresses the later steps are not asked
-  pub form-empty : r.end ≤ r.start → status_of (form_chain (ltb 3 r.flags) true false false false) ≡ status_of (form_steps (limits mask input first last) r)
+module _ (l : Limits) (r : Mapping) where
+  -- where the flags are ones that a record may have and there are addresses: a says whether they are aligned, x whether one is
+  -- outside the input range, w whether they are in the window
+  pub form-tests : (a x w : Bool) → r.flags ≤ 3 → r.start < r.end → a ≡ (aligned l.mask r.start && (aligned l.mask r.phys && aligned l.mask (r.end + 1)))
+      → x ≡ (ltb r.start l.input.start || ltb l.input.end r.end)
+      → w ≡ (leb r.start r.end && (leb l.first r.phys && leb (r.phys + r.end - r.start) l.last))
+      → status_of (form_chain false false (not a) x (not w)) ≡ status_of (form_steps (limits_of l) r)
   unfolding form_steps
-  form-empty h = rw (le-leb r.end r.start h)
+  form-tests a x w f h ea ex ew =
+      rw (ea, ex, ew, le-ltb 3 r.flags f, lt-leb r.end r.start h, ends-out l.input.start l.input.end r.start r.end (omega arith), window-out l.first l.last r.phys r.start r.end (omega arith), not-both (aligned l.mask r.start) (aligned l.mask r.phys && aligned l.mask (r.end + 1)), not-both (aligned l.mask r.phys) (aligned l.mask (r.end + 1)))
 
-  pub form-tests : (a w : Bool) → r.start < r.end → a ≡ (aligned mask r.start && (aligned mask r.phys && aligned mask (r.end + 1)))
-      → w ≡ (leb r.start r.end && (leb first r.phys && leb (r.phys + r.end - r.start) last))
-      → status_of (form_chain (ltb 3 r.flags) false (not a) (ltb r.start input.start || ltb input.end r.end) (not w)) ≡ status_of (form_steps (limits mask input first last) r)
-  unfolding form_steps
-  form-tests a w h ea ew =
-      rw (ea, ew, lt-leb r.end r.start h, ends-out input.start input.end r.start r.end (omega arith), window-out first last r.phys r.start r.end (omega arith), not-both (aligned mask r.start) (aligned mask r.phys && aligned mask (r.end + 1)), not-both (aligned mask r.phys) (aligned mask (r.end + 1)))
-
-  pub form-passes : (x : ℕ) → x ≡ status_of (form_steps (limits mask input first last) r) → eqb x OK ≡ form_good mask input first last r
+  pub form-passes : (x : Result (Unit {0}) Failure) → outcome_status x ≡ status_of (form_steps (limits_of l) r) → is_ok x ≡ form_good l r
   unfolding form_good
-  form-passes x e = rw e (status-passes (form_steps (limits mask input first last) r) (unfold form_steps in refl))
+  form-passes x e = worked x ∙ rw e (status-passes (form_steps (limits_of l) r) (unfold form_steps in refl))
+    where
+      worked : (x : Result (Unit {0}) Failure) → is_ok x ≡ eqb (outcome_status x) OK
+      worked (Ok u) = refl
+      worked (Err f) = failed f
+        where
+          failed : (f : Failure) → false ≡ eqb (failure_status f) OK
+          failed Unsupp = refl
+          failed Deverr = refl
+          failed Inval = refl
+          failed Range = refl
+          failed Noent = refl
+          failed Fault = refl
+          failed Nomem = refl

@@ -1,11 +1,16 @@
 // Steps 2 to 6 of MAP for a record.
 ghost use Rattle.std.specs.Prelude.{◌≡◌, ◌&&◌, ◌||◌, ◌+◌, ◌-◌, leb, ltb};
-ghost use Rattle.rules.specs.Handlers.{status_of, aligned, form_chain, form_steps};
-ghost use Rattle.map_steps.specs.Forms.{limits, form_good};
+ghost use Rattle.rules.specs.Failures.{outcome_status};
+ghost use Rattle.rules.specs.Handlers.{status_of, aligned, form_steps};
+ghost use Rattle.map_steps.specs.Forms.{limits_of, form_good};
 
-use rules::requests::{FAULT, INVAL, OK, RANGE};
+use crate::limits::Limits;
+use rules::Mapping;
+use rules::requests::Failure;
 use rules::sizes::TOP_ADDRESS;
-use rules::{InputRange, Mapping};
+
+// The highest flags that a record may have.
+const TOP_FLAGS: u64 = 3;
 
 // Whether start and phys are multiples of the mask's lowest set bit, and end one less than a multiple; where no bit is set,
 // whether start and phys are the first address there is, and end the last.
@@ -33,61 +38,39 @@ fn in_window(first: u64, last: u64, phys: u64, start: u64, end: u64) -> bool
     (first <= phys) & (end - start <= last - phys)
 }
 
-// The status of steps 2 to 6 of MAP, by what their tests give.
-fn first_form(flags: bool, order: bool, grain: bool, input: bool, window: bool) -> u8
-    ensures { result ≡ status_of (form_chain flags order grain input window) }
+// Refuses a record that fails one of steps 2 to 6 of MAP, with the status of the first that fails.
+pub fn check_form(limits: &Limits, r: Mapping) -> Result<(), Failure>
+    ensures { outcome_status result ≡ status_of (form_steps (limits_of limits.now) r) }
 {
-    if flags {
-        return INVAL;
+    if r.flags > TOP_FLAGS {
+        return Err(Failure::Inval);
     }
-    if order {
-        return RANGE;
-    }
-    if grain {
-        return RANGE;
-    }
-    if input {
-        return RANGE;
-    }
-    if window {
-        return FAULT;
-    }
-    OK
-}
-
-// The status of steps 2 to 6 of MAP for a record, with a guest's window from first to last.
-pub fn form_status(mask: u64, input: InputRange, first: u64, last: u64, r: Mapping) -> u8
-    ensures { result ≡ status_of (form_steps (limits mask input first last) r) }
-{
-    let flags = r.flags > 3;
     if r.end <= r.start {
-        return first_form(flags, true, false, false, false);
+        return Err(Failure::Range);
     }
-    let grain = !aligned(mask, r.start, r.phys, r.end);
-    let beyond = (r.start < input.start) | (input.end < r.end);
-    let window = !in_window(first, last, r.phys, r.start, r.end);
-    first_form(flags, false, grain, beyond, window)
+    if !aligned(limits.mask, r.start, r.phys, r.end) {
+        return Err(Failure::Range);
+    }
+    if (r.start < limits.input.start) | (limits.input.end < r.end) {
+        return Err(Failure::Range);
+    }
+    if !in_window(limits.first, limits.last, r.phys, r.start, r.end) {
+        return Err(Failure::Fault);
+    }
+    Ok(())
 }
 
 // Whether steps 2 to 6 of MAP pass.
-pub(crate) fn form_good(mask: u64, input: InputRange, first: u64, last: u64, r: Mapping) -> bool
-    ensures { result ≡ form_good mask input first last r }
+pub(crate) fn form_good(limits: &Limits, r: Mapping) -> bool
+    ensures { result ≡ form_good limits.now r }
 {
-    form_status(mask, input, first, last, r) == OK
+    check_form(limits, r).is_ok()
 }
 
 // Whether steps 2 to 6 of MAP pass for the first record of a domain, which comes after the domain of key, or is the
 // first record of all.
-pub fn opens(
-    start: bool,
-    key: u64,
-    mask: u64,
-    input: InputRange,
-    first: u64,
-    last: u64,
-    r: Mapping,
-) -> bool
-    ensures { result ≡ (form_good mask input first last r && (start || ltb key r.key)) }
+pub fn opens(limits: &Limits, start: bool, key: u64, r: Mapping) -> bool
+    ensures { result ≡ (form_good limits.now r && (start || ltb key r.key)) }
 {
-    form_good(mask, input, first, last, r) & (start | (key < r.key))
+    form_good(limits, r) & (start | (key < r.key))
 }

@@ -2,7 +2,9 @@
 #![tactic(auto)]
 
 mod form;
+mod limits;
 mod runs;
 
-pub use form::{form_status, opens};
+pub use form::{check_form, opens};
+pub use limits::{Limits, limits_at};
 pub use runs::run_end;

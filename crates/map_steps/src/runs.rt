@@ -4,28 +4,19 @@ ghost use Rattle.rules.specs.Table.{records};
 ghost use Rattle.map_steps.specs.Forms.{form_good, run};
 
 use crate::form::form_good;
-use rules::InputRange;
+use crate::limits::Limits;
 
 // The place at which the records from place `from` on no longer go on with a domain: each is of its key, stands past the
 // end of the one before, and passes steps 2 to 6 of MAP.
-pub fn run_end(
-    t: &[u64],
-    from: usize,
-    live: usize,
-    key: u64,
-    end: u64,
-    mask: u64,
-    input: InputRange,
-    first: u64,
-    last: u64,
-) -> usize
-    ensures { result ≡ from + run (form_good mask input first last) key end (drop from (take live (records t.now))) }
+pub fn run_end(t: &[u64], from: usize, live: usize, limits: &Limits, key: u64, end: u64) -> usize
+    ensures { result ≡ from + run (form_good limits.now) key end (drop from (take live (records t.now))) }
 {
     let n = table_record::bounded(t, live);
     if n <= from {
         return from;
     }
     let mut before = end;
+    // By place: a record is five words of the table, which its place finds.
     for i in from..n {
         let r = table_record::get(t, i);
         if r.key != key {
@@ -34,7 +25,7 @@ pub fn run_end(
         if r.start <= before {
             return i;
         }
-        if !form_good(mask, input, first, last, r) {
+        if !form_good(limits, r) {
             return i;
         }
         before = r.end;

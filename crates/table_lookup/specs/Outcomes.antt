@@ -1,10 +1,9 @@
 -- What a lookup gives.
-use Rattle.std.proofs.Math.Option.{Option, some, none}
+use Rattle.std.proofs.Math.Option as logic
+use Rattle.std.specs.Prelude.{Option, Some, None}
 use Rattle.rules.specs.declared.Mapping.{Mapping}
-use Rattle.table_lookup.specs.declared.Found.{Found}
-use Rattle.table_lookup.specs.declared.Found.TheVariants.{At, Nothing}
 
 -- a lookup's outcome as the code gives it
-unfoldable pub found_of : Option Mapping → Found
-found_of none = Nothing
-found_of (some r) = At r
+unfoldable pub found_of : logic.Option Mapping → Option Mapping
+found_of logic.none = None
+found_of (logic.some r) = Some r

@@ -9,16 +9,8 @@ ghost use Rattle.table_lookup.specs.Outcomes.{found_of};
 use rules::{Access, Mapping};
 use table_record::{bounded, get};
 
-// What a lookup gives.
-#[derive(Clone, Copy)]
-pub enum Found {
-    // The first record that permits the access.
-    At(Mapping),
-    // No record permits it.
-    Nothing,
-}
-
 // Whether the flags have the one that an access of this kind asks for.
+#[tactic(auto, unfolding(rules::specs::Access::has_flag))]
 fn has_flag(kind: u8, flags: u64) -> bool
     ensures { result ≡ access.has_flag kind flags }
 {
@@ -30,6 +22,7 @@ fn has_flag(kind: u8, flags: u64) -> bool
 }
 
 // Whether r lets an access through that is made in the key's domain.
+#[tactic(auto, unfolding(rules::specs::Access::permits, rules::specs::Handlers::of_key))]
 fn permits(r: Mapping, key: u64, a: Access) -> bool
     ensures { result ≡ access.permits key a r }
 {
@@ -37,15 +30,16 @@ fn permits(r: Mapping, key: u64, a: Access) -> bool
 }
 
 // The first of the first live records that lets an access through that is made in the key's domain.
-pub fn find_mapping(t: &[u64], live: usize, key: u64, a: Access) -> Found
+pub fn find_mapping(t: &[u64], live: usize, key: u64, a: Access) -> Option<Mapping>
     ensures { result ≡ found_of (access.find_mapping key a (take live (records t.now))) }
 {
     let n = bounded(t, live);
+    // By place: a record is five words of the table.
     for i in 0..n {
         let r = get(t, i);
         if permits(r, key, a) {
-            return Found::At(r);
+            return Some(r);
         }
     }
-    Found::Nothing
+    None
 }

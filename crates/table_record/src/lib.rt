@@ -6,5 +6,5 @@ mod record;
 mod writing;
 
 pub use key::key_of;
-pub use record::{bounded, get};
+pub use record::{bounded, get, get_at};
 pub use writing::write;

@@ -1,5 +1,5 @@
 // One record of the table.
-ghost use Rattle.std.specs.Prelude.{◌≡◌, ◌+◌, ◌*◌, ◌<◌, ◌≤◌, length, get_or, take};
+ghost use Rattle.std.specs.Prelude.{◌≡◌, cond, ◌+◌, ◌*◌, ◌<◌, ◌≤◌, leb, length, get_or, take};
 ghost use Rattle.rules.specs.Sizes.{record_words};
 ghost use Rattle.rules.specs.Table.{records};
 ghost use Rattle.table_record.specs.Records.{no_mapping, loaded};
@@ -36,13 +36,20 @@ pub fn get(t: &[u64], i: usize) -> Mapping
     if i < t.len() / RECORD_WORDS {
         return read(t, i);
     }
-    Mapping {
-        key: 0,
-        start: 0,
-        end: 0,
-        phys: 0,
-        flags: 0,
+    Mapping::default()
+}
+
+// The record in the five words from at on, and five zeros where the table does not have them all.
+pub fn get_at(t: &[u64], at: usize) -> Mapping
+    ensures { result ≡ cond (leb (at + record_words) (length t.now)) (loaded t.now at) no_mapping }
+{
+    if t.len() < RECORD_WORDS {
+        return Mapping::default();
     }
+    if t.len() - RECORD_WORDS < at {
+        return Mapping::default();
+    }
+    load(t, at)
 }
 
 // The smaller of live and the number of whole records.
@@ -50,5 +57,5 @@ pub fn bounded(t: &[u64], live: usize) -> usize
     ensures { (result ≡ length (take live (records t.now))) × (result ≤ length (records t.now)) × (record_words * result ≤ length t.now) }
 {
     let whole = t.len() / RECORD_WORDS;
-    if live < whole { live } else { whole }
+    live.min(whole)
 }

@@ -30,37 +30,7 @@ pub extern "C" fn viommu_access(
         address,
         kind,
     };
-    let settings = s.settings;
-    let mut logged = s.logged;
-    let mut lost = s.lost;
-    let mut reasons = s.reasons;
-    let mut flags = s.flags;
-    let mut sources = s.sources;
-    let mut addresses = s.addresses;
-    let answer = call_access::checked_access(
-        settings,
-        s.listed,
-        s.live,
-        &s.endpoints,
-        &s.owners,
-        &s.attached,
-        &s.domains,
-        &s.regions,
-        &mut logged,
-        &mut lost,
-        &mut reasons,
-        &mut flags,
-        &mut sources,
-        &mut addresses,
-        t,
-        a,
-    );
-    s.logged = logged;
-    s.lost = lost;
-    s.reasons = reasons;
-    s.flags = flags;
-    s.sources = sources;
-    s.addresses = addresses;
+    let answer = call_access::access(&mut s, t, a);
     let values = call_answers::values_of(answer);
     AccessGiven {
         state: s,

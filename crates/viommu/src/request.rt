@@ -26,33 +26,7 @@ pub extern "C" fn viommu_request(
     ensures number_value { (result.number ≡ number (rules.step (device s t.old) (rules.of_guest g (rules.request readable.now writable.old))).0.answer) × (result.used ≡ used_length (rules.step (device s t.old) (rules.of_guest g (rules.request readable.now writable.old))).0.answer) }
     ensures t_after { (device result.state t.new ≡ (rules.step (device s t.old) (rules.of_guest g (rules.request readable.now writable.old))).1) × (writable.new ≡ (rules.step (device s t.old) (rules.of_guest g (rules.request readable.now writable.old))).0.buffer) }
 {
-    let settings = s.settings;
-    let mut attached = s.attached;
-    let mut domains = s.domains;
-    let done = call_request::checked_request(
-        settings,
-        s.listed,
-        s.live,
-        &s.endpoints,
-        &s.owners,
-        &mut attached,
-        &mut domains,
-        &s.regions,
-        &s.logged,
-        &s.lost,
-        &s.reasons,
-        &s.flags,
-        &s.sources,
-        &s.addresses,
-        t,
-        g,
-        readable,
-        writable,
-    );
-    s.attached = attached;
-    s.domains = domains;
-    s.live = done.live;
-    let answer = done.answer;
+    let answer = call_request::request(&mut s, t, g, readable, writable);
     let values = call_answers::values_of(answer);
     RequestGiven {
         state: s,

@@ -1,14 +1,13 @@
--- Laws of numbers in bytes and of bytes copied.
-use Prim.Native.Nat.{ℕ, suc, ◌+◌, ◌-◌, ◌*◌, ◌/◌, ◌%◌, ◌^◌, ◌<◌, ◌≤◌, min}
-use mathlib.Core.Path.{◌≡◌, refl, ap}
+-- Laws of numbers in bytes.
+use Prim.Native.Nat.{ℕ, suc, ◌+◌, ◌-◌, ◌*◌, ◌/◌, ◌%◌, ◌^◌, ◌<◌, ◌≤◌}
+use mathlib.Core.Path.{◌≡◌}
 use mathlib.Core.Bool.{cond, ◌&&◌}
-use mathlib.Core.List.{List, [], ◌∷◌, ◌++◌}
-use native.Mathlib.Nat.{pow-suc, pow-le-pow_right, zero-add, zero-min, min-zero, suc-min-suc}
-use native.Mathlib.Numerals.{add-one}
+use mathlib.Core.List.{List, ◌++◌}
+use native.Mathlib.Nat.{pow-suc, pow-le-pow_right}
 use native.Mathlib.Omega.{arith}
 use lib.Dec.{leb}
-use lib.ListN.{length, get_or, take, drop, set}
-use lib.Seq.{drop-cons, paste-suc, take-suc-set, append_snoc}
+use lib.ListN.{length, get_or, take, set}
+use lib.Seq.{drop-cons, take-suc-set, append_snoc}
 use borrow.Author.Tests.{le-leb, lt-leb}
 use Rattle.laws.specs.Bytes.{le_field, le_bytes}
 
@@ -30,21 +29,6 @@ below_next x b n i j e h l k =
 pub below-fits : (x n i j : ℕ) → i ≡ suc j → n ≤ 8 → x < 256 ^ (n - i) → 256 * x + 255 < 2 ^ 64
 below-fits x n i j e h k = omega (arith, pow-le-pow_right {n = 256} (omega arith) {i = n - i} {j = 7} (omega arith))
 
--- d with its first i elements replaced by those of s
-abbrev pub copied : {A : Type 0} → ℕ → List A → List A → List A
-copied i s d = take i s ++ drop i d
-
-module _ {A : Type 0} where
-  pub copied_next : (s d : List A) (i : ℕ) (z : A) → i < length s → i < length d → set (copied i s d) i (get_or s i z) ≡ copied (i + 1) s d
-  copied_next s d i z h k = rw add-one (simp zero-add at (paste-suc d 0 s i z (omega arith) h))
-
-  -- as many replaced as both have
-  pub copied_all : (s d : List A) → copied (min (length s) (length d)) s d ≡ take (length d) s ++ drop (length s) d
-  copied_all [] [] = refl
-  copied_all [] (y ∷ d) = rw (zero-min (length (y ∷ d)))
-  copied_all (x ∷ s) [] = rw (min-zero (length (x ∷ s)))
-  copied_all (x ∷ s) (y ∷ d) = rw (suc-min-suc (length s) (length d)) (ap (λ (l : List A). x ∷ l) (copied_all s d))
-
 -- a field that does not fit: what `field_at` ensures of it
 pub no_field : (k n l x : ℕ) → n ≤ 8 → l < k + n → cond (leb n 8 && leb (k + n) l) x 0 ≡ 0
 no_field k n l x a b = rw (le-leb n 8 a, lt-leb (k + n) l b)
@@ -53,10 +37,9 @@ no_field k n l x a b = rw (le-leb n 8 a, lt-leb (k + n) l b)
 pub power-above : (n : ℕ) → 0 < 256 ^ n
 power-above n = omega (arith, pow-le-pow_right {n = 256} (omega arith) {i = 0} {j = n} (omega arith))
 
--- the next byte of a number put down, with z after the number
-pub put_next : (bs z : List ℕ) (k n i x : ℕ) → i < n → k + i < length bs
-    → take (k + (i + 1)) (set bs (k + i) (x % 256)) ++ (le_bytes (n - (i + 1)) (x / 256) ++ z) ≡ take (k + i) bs ++ (le_bytes (n - i) x ++ z)
-put_next bs z k n i x h l =
-    let a : k + (i + 1) ≡ suc (k + i) = omega arith in
+-- the next byte of a number put down
+pub put_next : (bs : List ℕ) (n i x : ℕ) → i < n → i < length bs → take (i + 1) (set bs i (x % 256)) ++ le_bytes (n - (i + 1)) (x / 256) ≡ take i bs ++ le_bytes (n - i) x
+put_next bs n i x h l =
+    let a : i + 1 ≡ suc i = omega arith in
     let b : n - i ≡ suc (n - (i + 1)) = omega arith in
-    rw (a, b, take-suc-set bs (k + i) (x % 256) l) (append_snoc (take (k + i) bs) (x % 256) (le_bytes (n - (i + 1)) (x / 256) ++ z))
+    rw (b, a, take-suc-set bs i (x % 256) l) (append_snoc (take i bs) (x % 256) (le_bytes (n - suc i) (x / 256)))

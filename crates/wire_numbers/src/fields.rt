@@ -2,23 +2,14 @@
 ghost use Rattle.std.specs.Prelude.{◌≡◌, cond, ◌&&◌, ◌+◌, ◌^◌, ◌<◌, ◌≤◌, leb, length};
 ghost use Rattle.laws.specs.Bytes.{le_field};
 
-// A byte as a number of 64 bits.
-fn wide(x: u8) -> u64
-    ensures { result ≡ x }
-{
-    x as u64
-}
-
 // The number in the n bytes that start at byte k.
 fn number_at(bytes: &[u8], k: usize, n: usize) -> u64
     requires { (k + n ≤ length bytes.now) × (n ≤ 8) }
     ensures { (result ≡ le_field k n bytes.now) × (result < 256 ^ n) }
 {
     let mut x: u64 = 0;
-    let mut left = n;
-    while 0 < left {
-        left -= 1;
-        x = 256 * x + wide(bytes[k + left]);
+    for i in (0..n).rev() {
+        x = 256 * x + u64::from(bytes[k + i]);
     }
     x
 }

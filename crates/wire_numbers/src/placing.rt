@@ -8,9 +8,9 @@ fn put_number(bytes: &mut [u8], k: usize, n: usize, x: u64)
     ensures { bytes.new ≡ take k bytes.old ++ (le_bytes n x ++ drop (k + n) bytes.old) }
 {
     let mut rest = x;
-    for i in 0..n {
-        bytes[k + i] = (rest % 256) as u8;
-        rest = rest / 256;
+    for byte in bytes[k..k + n].iter_mut() {
+        *byte = (rest % 256) as u8;
+        rest /= 256;
     }
 }
 

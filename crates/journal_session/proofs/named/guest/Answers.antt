@@ -1,7 +1,5 @@
 -- A guest is named before the start, where fewer than four are.
-use mathlib.Core.Path.{sym}
 use native.Mathlib.Omega.{arith}
-use borrow.Author.Rules.{rules}
 use borrow.Author.Tests.{le-ltb, lt-ltb}
 use lib.Dec.{ltb}
 use Rattle.rules.specs.Sizes.{max_guests}
@@ -12,17 +10,18 @@ use Rattle.journal_session.proofs.named.guest.Goals as goal
 pub returns-then-p : goal.returns-then-p
 unfolding step_of
 returns-then-p c =
-    let a = c.args in
-    named-late a.p (ltb a.p.state.settings.guests max_guests) a.s.now _ c.if-p.true c.unread.ensures
+    let p = c.args.p.now in
+    named-late p (ltb p.state.settings.guests max_guests) c.args.s.now _ c.if-p.true c.unread.ensures
 
-pub returns-then-settings-ge-MAX_GUESTS : goal.returns-then-settings-ge-MAX_GUESTS
+pub returns-then-p-ge-MAX_GUESTS : goal.returns-then-p-ge-MAX_GUESTS
 unfolding step_of
-returns-then-settings-ge-MAX_GUESTS c =
-    let a = c.args in
-    named_past a.p (ltb a.p.state.settings.guests max_guests) a.s.now _ (le-ltb a.p.state.settings.guests max_guests (omega arith)) c.unread-then-settings-ge-MAX_GUESTS.ensures
+returns-then-p-ge-MAX_GUESTS c =
+    let p = c.args.p.now in
+    named_past p (ltb p.state.settings.guests max_guests) c.args.s.now _ (le-ltb p.state.settings.guests max_guests (omega arith)) c.unread-then-p-ge-MAX_GUESTS.ensures
 
 pub returns : goal.returns
 unfolding step_of
 returns c =
-    let a = c.args in
-    named_more a.p (ltb a.p.state.settings.guests max_guests) a.s.now _ c.if-p.false (lt-ltb a.p.state.settings.guests max_guests (omega arith)) _ c.size_of.ensures (rw (sym c.name_guest-next.ensures) c.consumed.ensures)
+    let p = c.args.p.now in
+    named_more p (ltb p.state.settings.guests max_guests) c.args.s.now _ c.if-p.false (lt-ltb p.state.settings.guests max_guests (omega arith))
+    (rw (c.if-p.false, c.name_guest.ensures)) _ c.size_of.ensures c.consumed.ensures

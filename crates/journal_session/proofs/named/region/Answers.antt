@@ -1,8 +1,6 @@
 -- A region is named before the start, where its endpoint is and has fewer than four.
 use mathlib.Core.Path.{◌≡◌, sym, ◌∙◌}
-use mathlib.Core.Bool.{Bool, true}
-use borrow.Author.Rules.{rules}
-use borrow.Author.Tests.{not-true, not-false}
+use mathlib.Core.Bool.{Bool, true, false}
 use Rattle.rules.specs.declared.Endpoint.{Endpoint}
 use Rattle.rules.specs.declared.State.{State}
 use Rattle.journal_session.specs.Naming.{region_taken}
@@ -17,19 +15,21 @@ may s e = region_taken s.listed s.endpoints s.regions e
 pub returns-then-p : goal.returns-then-p
 unfolding step_of
 returns-then-p c =
-    let a = c.args in
-    named-late a.p (may a.p.state a.e) a.s.now _ c.if-p.true c.unread.ensures
+    let p = c.args.p.now in
+    named-late p (may p.state c.args.e) c.args.s.now _ c.if-p.true c.unread.ensures
 
 pub returns-then-not-name_region : goal.returns-then-not-name_region
 unfolding step_of
 returns-then-not-name_region c =
-    let a = c.args in
-    named_past a.p (may a.p.state a.e) a.s.now _ (sym c.name_region.ensures.0 ∙ c.if-not-name_region.true) c.unread-then-not-name_region.ensures
+    let p = c.args.p.now in
+    let no : c.name_region.result ≡ false = c.if-not-name_region.true in
+    rw (rw no at c.name_region.ensures.named)
+    (named_past p (may p.state c.args.e) c.args.s.now _ (sym c.name_region.ensures.taken ∙ no) c.unread-then-not-name_region.ensures)
 
 pub returns : goal.returns
 unfolding step_of
 returns c =
-    let a = c.args in
+    let p = c.args.p.now in
     let yes : c.name_region.result ≡ true = c.if-not-name_region.false in
-    named_more a.p (may a.p.state a.e) a.s.now _ c.if-p.false (sym c.name_region.ensures.0 ∙ yes) _ c.size_of.ensures
-    (rw (sym (rw yes at c.name_region.ensures.1)) c.consumed.ensures)
+    named_more p (may p.state c.args.e) c.args.s.now _ c.if-p.false (sym c.name_region.ensures.taken ∙ yes)
+    (rw (c.if-p.false, rw yes at c.name_region.ensures.named)) _ c.size_of.ensures c.consumed.ensures

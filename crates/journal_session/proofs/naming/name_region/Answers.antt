@@ -1,5 +1,5 @@
 use Prim.Native.Nat.{ℕ, ◌≤◌, ◌<◌, min}
-use mathlib.Core.Path.{◌≡◌, refl, sym, ◌∙◌}
+use mathlib.Core.Path.{◌≡◌, sym}
 use mathlib.Core.Bool.{true, false, and-false}
 use mathlib.Core.List.{List}
 use native.Mathlib.Omega.{arith}
@@ -34,26 +34,26 @@ module _ (n : ℕ) (endpoints words : List ℕ) (e : Endpoint) (all : length end
 counted : (words : List ℕ) (i j : ℕ) → i < max_endpoints → j ≡ held_count words i → j ≡ min (region_count words i) max_regions
 counted words i j h e = rw (lt-ltb i max_endpoints h) at e
 
-pub returns-then-i-at_most_all : goal.returns-then-i-at_most_all
-returns-then-i-at_most_all c =
-    let a = c.args in
-    let l : length a.endpoints.now ≡ max_endpoints = search rules in
-    (unnamed a.n a.endpoints.now a.regions.now a.e l (omega (arith, c.at_most_all.ensures.0, c.index_of-i.ensures)), refl)
+pub returns-then-i-min-clause-taken : goal.returns-then-i-min-clause-taken
+returns-then-i-min-clause-taken c =
+    let s = c.args.s.now in
+    unnamed s.listed s.endpoints s.regions c.args.e (search rules) (omega (arith, c.min.ensures, c.index_of-i.ensures))
 
-pub returns-then-j-ge-MAX_REGIONS : goal.returns-then-j-ge-MAX_REGIONS
-returns-then-j-ge-MAX_REGIONS c =
-    let a = c.args in
-    let l : length a.endpoints.now ≡ max_endpoints = search rules in
-    let j = counted a.regions.now c.index_of-i.result c.count_at-j.result (omega (arith, c.at_most_all.ensures.1)) c.count_at-j.ensures in
-    (full a.n a.endpoints.now a.regions.now a.e l (rw (sym c.index_of-i.ensures) (omega (arith, j))), refl)
+pub returns-then-j-ge-MAX_REGIONS-clause-taken : goal.returns-then-j-ge-MAX_REGIONS-clause-taken
+returns-then-j-ge-MAX_REGIONS-clause-taken c =
+    let s = c.args.s.now in
+    let j = counted s.regions c.index_of-i.result c.count_at-j.result (omega (arith, c.min.ensures)) c.count_at-j.ensures in
+    full s.listed s.endpoints s.regions c.args.e (search rules) (rw (sym c.index_of-i.ensures) (omega (arith, j)))
 
-pub returns : goal.returns
+pub returns-clause-taken : goal.returns-clause-taken
+returns-clause-taken c =
+    let s = c.args.s.now in
+    let j = counted s.regions c.index_of-i.result c.count_at-j.result (omega (arith, c.min.ensures)) c.count_at-j.ensures in
+    taken s.listed s.endpoints s.regions c.args.e (search rules) (omega (arith, c.min.ensures, c.index_of-i.ensures)) (rw (sym c.index_of-i.ensures) (omega (arith, j)))
+
+pub returns-clause-named : goal.returns-clause-named
 unfolding region_named
-returns c =
-    let a = c.args in
-    let l : length a.endpoints.now ≡ max_endpoints = search rules in
-    let j = counted a.regions.now c.index_of-i.result c.count_at-j.result (omega (arith, c.at_most_all.ensures.1)) c.count_at-j.ensures in
-    let n : c.count_at-j.result ≡ region_count a.regions.now c.index_of-i.result = omega (arith, j) in (
-      taken a.n a.endpoints.now a.regions.now a.e l (omega (arith, c.at_most_all.ensures.0, c.index_of-i.ensures)) (rw (sym c.index_of-i.ensures) (omega (arith, j))),
-      c.put_region.ensures ∙ rw (n, c.index_of-i.ensures),
-    )
+returns-clause-named c =
+    let j = counted c.args.s.now.regions c.index_of-i.result c.count_at-j.result (omega (arith, c.min.ensures)) c.count_at-j.ensures in
+    let n : c.count_at-j.result ≡ region_count c.args.s.now.regions c.index_of-i.result = omega (arith, j) in
+    rw (c.put_region.ensures, n, c.index_of-i.ensures)

@@ -18,12 +18,12 @@ take-regions n l e =
 pub returns : goal.returns
 unfolding config_of
 returns c =
-    let s = c.args.s in
-    c.set_up_listed.ensures.0
+    let s = c.args.s.now in
+    c.set_up-given.ensures
     ∙ rw (
-      c.name_ranges-settings.ensures,
-      c.at_most_all-n.ensures.0,
-      take-least s.listed max_endpoints s.endpoints c.set_up_listed.ensures.1,
-      take-least s.listed max_endpoints s.owners c.set_up_listed.ensures.2,
-      take-regions s.listed s.regions c.set_up_listed.ensures.3,
+      c.name_ranges.ensures,
+      c.min-n.ensures,
+      take-least s.listed max_endpoints s.endpoints (search rules),
+      take-least s.listed max_endpoints s.owners (search rules),
+      take-regions s.listed s.regions (search rules),
     )

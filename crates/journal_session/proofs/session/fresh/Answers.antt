@@ -1,4 +1,3 @@
-use borrow.Author.Rules.{rules}
 use Rattle.journal_session.proofs.session.fresh.Goals as goal
 
 pub returns : goal.returns

@@ -6,7 +6,7 @@ use mathlib.Core.Path.{◌≡◌, refl, sym, ap, ◌∙◌}
 use mathlib.Core.Bool.{Bool, true, false, cond, ◌&&◌, and-false}
 use lib.Dec.{ltb, eqb}
 use lib.ListN.{length, take, drop}
-use borrow.Author.Tests.{eq-eqb, ne_eqb, lt-ltb, le-ltb, not-true, not-false}
+use borrow.Author.Tests.{eq-eqb, ne_eqb, lt-ltb, le-ltb}
 use Rattle.rules.specs.declared.Mapping.{Mapping}
 use Rattle.rules.specs.Table.{records}
 use Rattle.table_record.proofs.Laws.{gone}
@@ -16,12 +16,12 @@ use Rattle.map_steps.proofs.runs.run_end.Statement.{statement}
 use Rattle.map_steps.proofs.runs.run_end.Tie as tie
 
 abbrev invariant-loop-i : tie.invariant-loop-i
-invariant-loop-i t from live key end mask input first last n before₀ i₀ before i =
+invariant-loop-i t from live limits key end n before₀ i₀ before i =
     (from ≤ i) × (i ≤ n)
-    × (from + run (form_good mask input first last) key end (drop from (take live (records t))) ≡ i + run (form_good mask input first last) key before (drop i (take live (records t))))
+    × (from + run (form_good limits) key end (drop from (take live (records t))) ≡ i + run (form_good limits) key before (drop i (take live (records t))))
 
 abbrev decreases-loop-i : tie.decreases-loop-i
-decreases-loop-i t from live key end mask input first last n before₀ i₀ before i = n - i
+decreases-loop-i t from live limits key end n before₀ i₀ before i = n - i
 
 -- the records there are
 module _ (b : tie.After-bounded-n invariant-loop-i decreases-loop-i) where
@@ -29,7 +29,7 @@ module _ (b : tie.After-bounded-n invariant-loop-i decreases-loop-i) where
   start = b.before.before
 
   abbrev good : Mapping → Bool
-  good = form_good start.args.mask start.args.input start.args.first start.args.last
+  good = form_good start.args.limits.now
 
   -- how many of those from place i on go on with the domain, after one that ends at `end`
   abbrev going : ℕ → ℕ → ℕ

@@ -1,7 +1,6 @@
-use Prim.Native.Nat.{◌+◌}
 use mathlib.Core.Path.{sym}
 use native.Mathlib.Omega.{arith}
-use borrow.Author.Tests.{le-leb, lt-leb}
+use borrow.Author.Tests.{lt-leb}
 use lib.ListN.{length}
 use Rattle.laws.specs.Bytes.{le_field}
 use Rattle.wire_numbers.proofs.Laws.{no_field, power-above}
@@ -21,14 +20,3 @@ pub returns-then-bytes-n-2 : goal.returns-then-bytes-n-2
 returns-then-bytes-n-2 c =
     let a = c.args in
     (sym (no_field a.k a.n (length a.bytes.now) (le_field a.k a.n a.bytes.now) (omega arith) (omega arith)), power-above a.n)
-
-pub returns : goal.returns
-returns c =
-    let a = c.args in (
-      rw (le-leb a.n 8 (omega arith), le-leb (a.k + a.n) (length a.bytes.now) (omega arith)) c.number_at.ensures.0,
-      c.number_at.ensures.1,
-    )
-
-pub number_at-requires : goal.number_at-requires
-number_at-requires c =
-    omega arith

@@ -1,37 +1,31 @@
 use Prim.Native.Nat.{◌+◌, ◌-◌}
-use mathlib.Core.Path.{◌≡◌, refl, sym, ◌∙◌}
+use mathlib.Core.Path.{◌≡◌, ◌∙◌}
+use mathlib.Core.List.{append-nil}
 use native.Mathlib.Omega.{arith}
-use lib.ListN.{drop, length-set, take-append-drop}
-use lib.Seq.{drop-set-lt}
+use borrow.Rule.Slice.PartMut.{mid_len, Post-is}
+use lib.ListN.{length-set}
+use lib.Seq.{take_all}
 use Rattle.wire_numbers.proofs.Laws.{put_next}
 use Rattle.wire_numbers.proofs.placing.put_number.Goals as goal
 
-pub loop-i-init : goal.loop-i-init
-loop-i-init c =
+pub loop-byte-init : goal.loop-byte-init
+loop-byte-init c =
     let a = c.args in
-    let e : a.k + 0 ≡ a.k = omega arith in
-    let f : a.n - 0 ≡ a.n = omega arith in
-    (omega arith, refl, refl, rw (e, f))
+    let e : a.n - 0 ≡ a.n = omega arith in
+    (mid_len a.k (a.k + a.n) a.bytes.now c.requires ∙ omega arith, rw e)
 
-pub loop-i-preserved : goal.loop-i-preserved
-loop-i-preserved c =
-    let a = c.args in
-    let l = c.loop-i.bytes in
-    let i = c.loop-i.i in (
-      omega arith,
-      length-set l (a.k + i) _ ∙ c.loop-i.invariant.1,
-      drop-set-lt (a.k + a.n) l (a.k + i) _ (omega arith) ∙ c.loop-i.invariant.2,
-      put_next l (drop (a.k + a.n) a.bytes.now) a.k a.n i c.loop-i.rest (omega arith) (omega arith) ∙ c.loop-i.invariant.3,
+pub loop-byte-preserved : goal.loop-byte-preserved
+loop-byte-preserved c =
+    let l = c.loop-byte in (
+      simp length-set l.invariant.0,
+      put_next l.byte-items c.args.n l.byte-index l.rest (omega arith) (omega arith) ∙ l.invariant.1,
     )
 
 pub returns : goal.returns
 returns c =
     let a = c.args in
-    let l = c.loop-i.bytes in
-    let e : c.loop-i.i ≡ a.n = omega arith in
+    let l = c.loop-byte in
+    let e : l.byte-index ≡ a.n = omega arith in
     let z : a.n - a.n ≡ 0 = omega arith in
-    sym (take-append-drop (a.k + a.n) l) ∙ rw c.loop-i.invariant.2 (rw (e, z) at c.loop-i.invariant.3)
-
-pub shape_of-bytes : goal.shape_of-bytes
-shape_of-bytes c =
-    c.loop-i.invariant.1
+    let f = rw (e, z, append-nil) at l.invariant.1 in
+    rw (Post-is a.k (a.k + a.n) a.bytes.now (omega arith), ← f, take_all a.n l.byte-items (omega arith))
