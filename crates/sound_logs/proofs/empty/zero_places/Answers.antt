@@ -20,9 +20,6 @@ loop-j-preserved c =
     rw (c.from.ensures, zero-round (get_or s.reasons i 0) (get_or s.flags i 0) (get_or s.sources i 0) (get_or s.addresses i 0) l.narrow l.broad)
     (tested-next a.n (λ k. fault_zero (fault_at s (a.first + k))) (eqb l.narrow 0 && eqb l.broad 0) _ l.j l.invariant (omega arith) refl)
 
-pub returns : goal.returns
-returns c = let l = c.loop-j in tested-all _ _ (eqb l.narrow 0 && eqb l.broad 0) l.j l.invariant (omega arith)
-
 pub loop-j-init : goal.loop-j-init
 loop-j-init c =
     tested-none _ _

@@ -12,9 +12,6 @@ loop-j-preserved c =
     let l = c.loop-j in
     tested-next _ _ l.ok c.fault_good-ok.result l.j l.invariant (omega arith) c.fault_good-ok.ensures
 
-pub returns : goal.returns
-returns c = let l = c.loop-j in tested-all _ _ l.ok l.j l.invariant (omega arith)
-
 pub loop-j-init : goal.loop-j-init
 loop-j-init c =
     tested-none _ _

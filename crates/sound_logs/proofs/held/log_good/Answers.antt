@@ -13,15 +13,3 @@ returns c =
     let s = a.s.now in
     rw (c.zero_places.ensures, c.faults_of.ensures, c.min-held.ensures)
     (log-split (max_faults * a.g.0) a.count (pick_by a.g.0 a.owners.now s.endpoints) (fault_at s))
-
-pub faults_of-requires : goal.faults_of-requires
-faults_of-requires c =
-    omega arith
-
-pub overflow_sub-held : goal.overflow_sub-held
-overflow_sub-held c =
-    omega arith
-
-pub zero_places-requires : goal.zero_places-requires
-zero_places-requires c =
-    omega arith

@@ -22,7 +22,3 @@ returns-then-owners-j c =
     sym
     (owned_at-any (eqb a.e.0) 0 a.g.0 a.owners.now a.s.now.endpoints j (omega arith) (omega arith) (both_left o e t)
     (eq-eqb a.e.0 (get_or a.s.now.endpoints j 0) (sym (eqb-true (get_or a.s.now.endpoints j 0) a.e.0 (both_right o e t)))))
-
-pub returns : goal.returns
-returns c =
-    c.is_listed.ensures

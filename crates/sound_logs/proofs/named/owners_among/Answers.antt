@@ -8,9 +8,6 @@ use Rattle.state_fields.proofs.Rewriting.{Written, written_none, written-store, 
 use Rattle.sound_logs.specs.Faults.{owner_among}
 use Rattle.sound_logs.proofs.named.owners_among.Goals as goal
 
-pub loop-j-init : goal.loop-j-init
-loop-j-init c = (omega arith, search rules, written_none _ _)
-
 pub loop-j-preserved : goal.loop-j-preserved
 unfolding owner_among
 loop-j-preserved c =
