@@ -16,8 +16,6 @@ pub fn keep_rest(block: &mut [u8], from: usize, held: usize) -> usize
         return 0;
     }
     let n = held - from;
-    for i in 0..n {
-        block[i] = block[from + i];
-    }
+    block.copy_within(from..held, 0);
     n
 }

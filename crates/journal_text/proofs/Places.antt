@@ -18,7 +18,7 @@ drop-set l i v h =
     rw (add-one, drop-cons (set l i v) i v (lt-length-set l i v h), get_or-set_same l i v v h, drop-set-lt (suc i) l i v (omega arith))
 
 -- a line that is put whole: what stands before it, the line, and what stands after it
-placed-parts : (k : ℕ) (a out : List ℕ) → placed k a out ≡ take k out ++ (a ++ drop (k + length a) out)
+pub placed-parts : (k : ℕ) (a out : List ℕ) → placed k a out ≡ take k out ++ (a ++ drop (k + length a) out)
 unfolding placed
 placed-parts k a out = refl
 

@@ -25,7 +25,7 @@ pub(crate) fn decimal_text(x: u64, end: u8) -> Decimal
     let mut i: usize = 19;
     while 10 <= n {
         bytes[i] = digit((n % 10) as u8);
-        n = n / 10;
+        n /= 10;
         i -= 1;
     }
     bytes[i] = digit(n as u8);

@@ -12,11 +12,9 @@ pub fn address_line(x: u64) -> [u8; 17]
 {
     let mut line = [b'\n'; 17];
     let mut n = x;
-    let mut i: usize = 16;
-    while 0 < i {
-        i -= 1;
+    for i in (0..16).rev() {
         line[i] = digit((n % 16) as u8);
-        n = n / 16;
+        n /= 16;
     }
     line
 }
@@ -41,8 +39,8 @@ pub fn put_hex(out: &mut [u8], at: usize, bytes: &[u8]) -> usize
     if !has_room(out.len(), at, 2 * n + 1) {
         return at;
     }
-    for i in 0..n {
-        let digits = hex_of(bytes[i]);
+    for (i, &byte) in bytes.iter().enumerate() {
+        let digits = hex_of(byte);
         out[at + 2 * i] = digits[0];
         out[at + 2 * i + 1] = digits[1];
     }

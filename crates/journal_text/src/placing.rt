@@ -1,4 +1,4 @@
-// Bytes put into a lent buffer.
+// Bytes put into a buffer.
 ghost use Rattle.std.specs.Prelude.{◌≡◌, ◌+◌, leb, length};
 ghost use Rattle.journal_text.specs.Placing.{written, written_count};
 
@@ -19,8 +19,6 @@ pub fn put_bytes(out: &mut [u8], at: usize, bytes: &[u8]) -> usize
     if !has_room(out.len(), at, bytes.len()) {
         return at;
     }
-    for i in 0..bytes.len() {
-        out[at + i] = bytes[i];
-    }
+    out[at..at + bytes.len()].copy_from_slice(bytes);
     at + bytes.len()
 }

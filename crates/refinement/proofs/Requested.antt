@@ -23,7 +23,7 @@ use Rattle.rules.specs.declared.State.{State}
 use Rattle.rules.specs.declared.Fault.{Fault}
 use Rattle.rules.specs.Sizes.{domain_span, max_endpoints, max_records, properties_size, top_address}
 use Rattle.rules.specs.Configuration.{Config, MSI, share, regions_at, region_tests}
-use Rattle.rules.specs.Table.{key_of, guest_of, overlap, insert_mapping, records}
+use Rattle.rules.specs.Table.{key_of, guest_of, overlap, insert_mapping}
 use Rattle.rules.specs.State.{Attachment, Log, World, no_log, config_of, read, flag_of, number_of, state_of, write}
 use Rattle.rules.specs.Guests.{own, part, replace, records_of, with_records_of, with_records, with_log}
 use Rattle.rules.specs.Handlers.{outside, is_in, domain_exists, listed, attachment_of, of_key, regions_of, regions_in, on_region, without, leave, enter, move_from, attached, attach_steps, handle_attach, detach_steps, handle_detach, form_steps, map_steps, handle_map, inside, straddles, unmap_steps, handle_unmap, probe_steps, properties_of, probed, status_of, attach_chain, detach_chain, map_chain, unmap_chain}

@@ -28,9 +28,11 @@ use Rattle.rules.specs.Device as rules
 use Rattle.rules.proofs.Reading.{sound-good, sound-whole}
 use Rattle.rules.proofs.Groups.{sound-facts}
 use Rattle.rules.specs.State.{Lengths}
-use Rattle.wire_requests.specs.Parsed.{asked, map_fields, unmap_fields}
+use Rattle.std.specs.Prelude.{Result, Ok, Err}
+use Rattle.wire_requests.specs.Parsed.{asked, unless, parsed, map_fields, unmap_fields}
+use Rattle.wire_requests.proofs.Laws.{known-type, asked-known}
+use Rattle.wire_requests.specs.declared.request.Request.{Request}
 use Rattle.wire_requests.specs.declared.request.Request.TheVariants.{Attach, Detach, Map, Unmap, Probe}
-use Rattle.wire_requests.specs.declared.request.Request.TheVariants as Q
 use Rattle.refinement.specs.Flat.{StatusAndDevice, with_status, reset_guest}
 use Rattle.refinement.specs.Flat as flat
 use Rattle.refinement.specs.Requesting.{record_of, refused_request, served, unless_refused, serve}
@@ -38,6 +40,11 @@ use Rattle.refinement.specs.Requesting as requesting
 use Rattle.rules.proofs.Refusals.{no-such-guest, sound-step}
 use Rattle.rules.proofs.Unchanged.{replace-same, kept-is, written, still}
 use Rattle.refinement.proofs.Requested.{attach-written, detach-written, map-written, unmap-written, probe-status, probe-bytes, reset-written}
+
+-- what f gives for a request, and z for a refused one
+abbrev taken : {A : Type 0} → (Request → A) → A → Result Request Refusal → A
+taken f z (Ok q) = f q
+taken f z (Err a) = z
 
 -- what a PROBE writes before its status is of one length, whatever its outcome
 length-probed : (o : Own) (e : Endpoint) → length (probed o e) ≡ properties_size
@@ -107,8 +114,12 @@ module _ (d : Device) (h : sound d ≡ true) (k : Lengths d.state) where
     map-here : (r : List ℕ) → flat.handle_map (write (config_of d.state) (read d)) g (domain_field r) (record_of g (domain_field r) (map_fields r)) ≡ back (handle_map (own (config_of d.state) g) (part (config_of d.state) g (read d)) (domain_field r) (asked_for (own (config_of d.state) g) r))
     map-here r = unfold own flat.handle_map in rw placed (map-written (config_of d.state) (kept-is d h k) (read d) (sound-whole d h) g m (domain_field r) (record_of g (domain_field r) (map_fields r)) refl)
 
-    handle-step : (r : List ℕ) → requesting.handle d g (asked r) ≡ back (handle (own (config_of d.state) g) (part (config_of d.state) g (read d)) r)
-    handle-step r = ap (λ (e : Device). requesting.handle e g (asked r)) (written d h k) ∙ unfold asked handle in go (eqb (type_of r) ATTACH) (eqb (type_of r) DETACH) (eqb (type_of r) MAP) (eqb (type_of r) UNMAP) (eqb (type_of r) PROBE)
+    -- what the handler of a request's type gives
+    abbrev handled : Device → Result Request Refusal → StatusAndDevice
+    handled e x = taken (λ (q : Request). requesting.handle e g q) (with_status DEVERR e) x
+
+    handle-step : (r : List ℕ) → handled d (asked r) ≡ back (handle (own (config_of d.state) g) (part (config_of d.state) g (read d)) r)
+    handle-step r = ap (λ (e : Device). handled e (asked r)) (written d h k) ∙ unfold asked handle in go (eqb (type_of r) ATTACH) (eqb (type_of r) DETACH) (eqb (type_of r) MAP) (eqb (type_of r) UNMAP) (eqb (type_of r) PROBE)
       where
         same : with_status DEVERR (write (config_of d.state) (read d)) ≡ back (DEVERR, part (config_of d.state) g (read d))
         same = ap (λ (v : World). with_status DEVERR (write (config_of d.state) v)) (sym (replace-same (config_of d.state) (read d) (sound-whole d h) g))
@@ -120,7 +131,7 @@ module _ (d : Device) (h : sound d ≡ true) (k : Lengths d.state) where
             ∙ ap (λ (v : World). with_status (status_of (probe_steps (own (config_of d.state) g) (probe_endpoint r))) (write (config_of d.state) v)) (sym (replace-same (config_of d.state) (read d) (sound-whole d h) g)))
 
         go : (t u v x y : Bool)
-            → requesting.handle (write (config_of d.state) (read d)) g (cond t (Attach (domain_field r) (endpoint_field r) (attach_reserved r)) (cond u (Detach (domain_field r) (endpoint_field r) (attach_reserved r)) (cond v (Map (domain_field r) (map_fields r)) (cond x (Unmap (domain_field r) (unmap_fields r)) (cond y (Probe (probe_endpoint r)) (Q.Refused UnknownType))))))
+            → handled (write (config_of d.state) (read d)) (cond t (Ok (Attach (domain_field r) (endpoint_field r) (attach_reserved r))) (cond u (Ok (Detach (domain_field r) (endpoint_field r) (attach_reserved r))) (cond v (Ok (Map (domain_field r) (map_fields r))) (cond x (Ok (Unmap (domain_field r) (unmap_fields r))) (cond y (Ok (Probe (probe_endpoint r))) (Err UnknownType))))))
             ≡ back (cond t (handle_attach (own (config_of d.state) g) (part (config_of d.state) g (read d)) (domain_field r) (endpoint_field r) (attach_reserved r)) (cond u (handle_detach (own (config_of d.state) g) (part (config_of d.state) g (read d)) (domain_field r) (endpoint_field r) (attach_reserved r)) (cond v (handle_map (own (config_of d.state) g) (part (config_of d.state) g (read d)) (domain_field r) (asked_for (own (config_of d.state) g) r)) (cond x (handle_unmap (own (config_of d.state) g) (part (config_of d.state) g (read d)) (domain_field r) (virt_start r) (virt_end r) (unmap_reserved r)) (cond y (status_of (probe_steps (own (config_of d.state) g) (probe_endpoint r)), part (config_of d.state) g (read d)) (DEVERR, part (config_of d.state) g (read d)))))))
         go true u v x y = unfold requesting.handle in attach-written (config_of d.state) (kept-is d h k) (read d) (sound-whole d h) g m (domain_field r) (endpoint_field r) (attach_reserved r)
         go false true v x y = unfold requesting.handle in detach-written (config_of d.state) (kept-is d h k) (read d) (sound-whole d h) g m (domain_field r) (endpoint_field r) (attach_reserved r)
@@ -130,7 +141,10 @@ module _ (d : Device) (h : sound d ≡ true) (k : Lengths d.state) where
         go false false false false false = unfold requesting.handle in same
 
     -- the bytes before the status
-    bytes-step : (r : List ℕ) → requesting.bytes_before d g (asked r) ≡ bytes_before (own (config_of d.state) g) r
+    abbrev written_before : Result Request Refusal → List ℕ
+    written_before x = taken (λ (q : Request). requesting.bytes_before d g q) [] x
+
+    bytes-step : (r : List ℕ) → written_before (asked r) ≡ bytes_before (own (config_of d.state) g) r
     unfolding asked bytes_before
     bytes-step r = go (eqb (type_of r) ATTACH) refl (eqb (type_of r) DETACH) refl (eqb (type_of r) MAP) refl (eqb (type_of r) UNMAP) refl (eqb (type_of r) PROBE) refl
       where
@@ -146,7 +160,7 @@ module _ (d : Device) (h : sound d ≡ true) (k : Lengths d.state) where
         other n e f false z = refl
 
         go : (t : Bool) → eqb (type_of r) ATTACH ≡ t → (u : Bool) → eqb (type_of r) DETACH ≡ u → (v : Bool) → eqb (type_of r) MAP ≡ v → (x : Bool) → eqb (type_of r) UNMAP ≡ x → (y : Bool) → eqb (type_of r) PROBE ≡ y
-            → requesting.bytes_before d g (cond t (Attach (domain_field r) (endpoint_field r) (attach_reserved r)) (cond u (Detach (domain_field r) (endpoint_field r) (attach_reserved r)) (cond v (Map (domain_field r) (map_fields r)) (cond x (Unmap (domain_field r) (unmap_fields r)) (cond y (Probe (probe_endpoint r)) (Q.Refused UnknownType))))))
+            → written_before (cond t (Ok (Attach (domain_field r) (endpoint_field r) (attach_reserved r))) (cond u (Ok (Detach (domain_field r) (endpoint_field r) (attach_reserved r))) (cond v (Ok (Map (domain_field r) (map_fields r))) (cond x (Ok (Unmap (domain_field r) (unmap_fields r))) (cond y (Ok (Probe (probe_endpoint r))) (Err UnknownType))))))
             ≡ cond y (probed (own (config_of d.state) g) (probe_endpoint r)) []
         go true a u b v e x f y z = unfold requesting.bytes_before in other ATTACH a refl y z
         go false a true b v e x f y z = unfold requesting.bytes_before in other DETACH b refl y z
@@ -162,19 +176,25 @@ module _ (d : Device) (h : sound d ≡ true) (k : Lengths d.state) where
         ∙ unfold caller rules.performed work rule job_rule requested in
         rw f (ap (λ (e : Device). (record { answer = Refused a; buffer = b }, e)) (still d h k g (part (config_of d.state) g (read d)) refl))
 
-    served-step : (r b : List ℕ) → first_failing (request_refusals r (length b)) ≡ none → step d (of_guest g (request r b)) ≡ served (requesting.bytes_before d g (asked r)) (requesting.handle d g (asked r))
+    served-step : (r b : List ℕ) → first_failing (request_refusals r (length b)) ≡ none → step d (of_guest g (request r b)) ≡ served (written_before (asked r)) (handled d (asked r))
     served-step r b f =
         sound-step d (of_guest g (request r b)) (unfold config_of in l) h
         ∙ unfold caller rules.performed work rule job_rule requested in
         rw f (sym (rw (bytes-step r, handle-step r) (ap (λ (n : ℕ). (record { answer = Served n; buffer = bytes_before (own (config_of d.state) g) r ++ ((handle (own (config_of d.state) g) (part (config_of d.state) g (read d)) r).0 ∷ 0 ∷ 0 ∷ 0 ∷ []) }, (back (handle (own (config_of d.state) g) (part (config_of d.state) g (read d)) r)).left)) (used-length (own (config_of d.state) g) r b f))))
 
+    -- which is what it is parsed to, since it is of a known type
+    parsed-step : (r b : List ℕ) → first_failing (request_refusals r (length b)) ≡ none → (x : Result Request Refusal) → asked r ≡ x → unless_refused d g b x ≡ served (written_before x) (handled d x)
+    unfolding unless_refused
+    parsed-step r b f (Ok q) e = refl
+    parsed-step r b f (Err a) e = let k = known-type r (length b) f in absurd (asked-known r a k.0 k.1 e)
+
   -- a request on sound state and table is the device's step
   pub request-step : (g : Guest) (r b : List ℕ) → serve d g r b ≡ step d (of_guest g (request r b))
-  unfolding serve
+  unfolding serve parsed
   request-step g r b = go (ltb g.0 d.state.settings.guests) refl (first_failing (request_refusals r (length b))) refl
     where
       go : (t : Bool) → ltb g.0 d.state.settings.guests ≡ t → (m : Option Refusal) → first_failing (request_refusals r (length b)) ≡ m
-          → cond t (unless_refused d g r b m) (refused_request d b NoSuchGuest) ≡ step d (of_guest g (request r b))
+          → cond t (unless_refused d g b (unless m (asked r))) (refused_request d b NoSuchGuest) ≡ step d (of_guest g (request r b))
       go false n m f = sym (no-such-guest d (of_guest g (request r b)) (unfold config_of in n))
-      go true l none f = unfold unless_refused in sym (served-step g l r b f)
-      go true l (some a) f = unfold unless_refused in sym (refused-step g l r b a f)
+      go true l none f = unfold unless in (parsed-step g l r b f (asked r) refl ∙ sym (served-step g l r b f))
+      go true l (some a) f = unfold unless unless_refused in sym (refused-step g l r b a f)

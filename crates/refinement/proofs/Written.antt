@@ -17,7 +17,7 @@ use Rattle.rules.specs.declared.Domain.{Domain}
 use Rattle.rules.specs.declared.Mapping.{Mapping}
 use Rattle.rules.specs.Sizes.{max_endpoints, max_records}
 use Rattle.rules.specs.Configuration.{Config}
-use Rattle.rules.specs.Table.{insert_mapping, records}
+use Rattle.rules.specs.Table.{insert_mapping}
 use Rattle.rules.specs.State.{Attachment, Log, World, flag_of, number_of, state_of, write}
 use Rattle.rules.specs.Handlers.{is_in, domain_exists}
 use Rattle.rules.proofs.Groups.{Good}

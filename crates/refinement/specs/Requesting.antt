@@ -1,7 +1,5 @@
 -- A request on the state's arrays and the table's words, as the code works it.
-use Rattle.std.specs.Prelude.{ℕ, ◌+◌, cond, List, [], ◌∷◌, ◌++◌, ltb, length}
-use Rattle.std.proofs.Math.Option.{Option, some, none}
-use Rattle.laws.specs.Lists.{first_failing}
+use Rattle.std.specs.Prelude.{ℕ, ◌+◌, cond, List, [], ◌∷◌, ◌++◌, ltb, length, Result, Ok, Err}
 use Rattle.rules.specs.declared.Guest.{Guest}
 use Rattle.rules.specs.declared.Domain.{Domain}
 use Rattle.rules.specs.declared.Mapping.{Mapping}
@@ -9,14 +7,12 @@ use Rattle.rules.specs.declared.Answer.TheVariants.{Served, Refused}
 use Rattle.rules.specs.declared.Refusal.{Refusal}
 use Rattle.rules.specs.declared.Refusal.TheVariants.{NoSuchGuest}
 use Rattle.rules.specs.Sizes.{status_size}
-use Rattle.rules.specs.Requests.{DEVERR, request_refusals}
 use Rattle.rules.specs.State.{Device}
 use Rattle.rules.specs.Table.{key_of, mapping}
 use Rattle.rules.specs.Device.{Reply}
-use Rattle.wire_requests.specs.Parsed.{asked}
+use Rattle.wire_requests.specs.Parsed.{parsed}
 use Rattle.wire_requests.specs.declared.request.Request.{Request}
 use Rattle.wire_requests.specs.declared.request.Request.TheVariants.{Attach, Detach, Map, Unmap, Probe}
-use Rattle.wire_requests.specs.declared.request.Request.TheVariants as Q
 use Rattle.wire_requests.specs.declared.request.MapFields.{MapFields}
 use Rattle.refinement.specs.Flat.{StatusAndDevice, with_status}
 use Rattle.refinement.specs.Flat as flat
@@ -25,9 +21,8 @@ use Rattle.refinement.specs.Flat as flat
 abbrev pub record_of : Guest → Domain → MapFields → Mapping
 record_of g d f = mapping (key_of g d) f.start f.end f.phys f.flags
 
--- what the handler of a parsed request gives, by its case; a refused one has none
+-- what the handler of a request gives, by its case
 unfoldable pub handle : Device → Guest → Request → StatusAndDevice
-handle d g (Q.Refused a) = with_status DEVERR d
 handle d g (Attach dom e z) = flat.handle_attach d g dom e z
 handle d g (Detach dom e z) = flat.handle_detach d g dom e z
 handle d g (Map dom f) = flat.handle_map d g dom (record_of g dom f)
@@ -36,7 +31,6 @@ handle d g (Probe e) = with_status (flat.probe_status d.state g (flat.endpoint_i
 
 -- the bytes that a request writes before its status
 unfoldable pub bytes_before : Device → Guest → Request → List ℕ
-bytes_before d g (Q.Refused a) = []
 bytes_before d g (Attach dom e z) = []
 bytes_before d g (Detach dom e z) = []
 bytes_before d g (Map dom f) = []
@@ -50,10 +44,11 @@ refused_request d b e = (record { answer = Refused e; buffer = b }, d)
 abbrev pub served : List ℕ → StatusAndDevice → Reply × Device
 served b x = (record { answer = Served (length b + status_size); buffer = b ++ (x.status ∷ 0 ∷ 0 ∷ 0 ∷ []) }, x.left)
 
-unfoldable pub unless_refused : Device → Guest → List ℕ → List ℕ → Option Refusal → Reply × Device
-unless_refused d g r b (some e) = refused_request d b e
-unless_refused d g r b none = served (bytes_before d g (asked r)) (handle d g (asked r))
+-- what a parsed request is answered
+unfoldable pub unless_refused : Device → Guest → List ℕ → Result Request Refusal → Reply × Device
+unless_refused d g b (Err e) = refused_request d b e
+unless_refused d g b (Ok q) = served (bytes_before d g q) (handle d g q)
 
 -- the guest's number, the request's own refusals, then its handler
 unfoldable pub serve : Device → Guest → List ℕ → List ℕ → Reply × Device
-serve d g r b = cond (ltb g.0 d.state.settings.guests) (unless_refused d g r b (first_failing (request_refusals r (length b)))) (refused_request d b NoSuchGuest)
+serve d g r b = cond (ltb g.0 d.state.settings.guests) (unless_refused d g b (parsed r (length b))) (refused_request d b NoSuchGuest)

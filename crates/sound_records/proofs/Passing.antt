@@ -12,20 +12,20 @@ use Rattle.laws.specs.Lists.{below}
 use Rattle.rules.specs.declared.Settings.{Settings}
 use Rattle.rules.specs.declared.Mapping.{Mapping}
 use Rattle.rules.specs.Sizes.{max_guests}
-use Rattle.rules.specs.Configuration.{share, window_first, window_last}
+use Rattle.rules.specs.Configuration.{share}
 use Rattle.rules.specs.Table.{guest_of}
 use Rattle.rules.specs.Guests.{records_of}
 use Rattle.rules.specs.Sound.{guest, shares_kept}
 use Rattle.table_record.specs.Records.{no_mapping}
 use Rattle.table_record.proofs.Laws.{gone}
-use Rattle.map_steps.specs.Forms.{form_good, run}
+use Rattle.map_steps.specs.Forms.{limits_at, form_good, run}
 use Rattle.map_steps.proofs.Going.{now-at}
 use Rattle.sound_records.specs.Scan.{own_good, scan, opening}
 use Rattle.laws.proofs.Rounds.{below-same}
 use Rattle.sound_records.proofs.GoingOn.{run-own, run-other}
 
 -- a guest that is one, and one that is none
-pub own-within : (s : Settings) (r : Mapping) → guest_of r < s.guests → own_good s r ≡ form_good s.mask s.input (window_first s (guest_of r)) (window_last s (guest_of r)) r
+pub own-within : (s : Settings) (r : Mapping) → guest_of r < s.guests → own_good s r ≡ form_good (limits_at s (guest_of r)) r
 unfolding own_good
 own-within s r h = rw (lt-ltb (guest_of r) s.guests h)
 

@@ -6,12 +6,11 @@ use Rattle.rules.specs.declared.Domain.{Domain}
 use Rattle.rules.specs.declared.Settings.{Settings}
 use Rattle.rules.specs.declared.Mapping.{Mapping}
 use Rattle.rules.specs.Sizes.{max_guests, max_endpoints}
-use Rattle.rules.specs.Configuration.{window_first, window_last}
 use Rattle.rules.specs.State.{Attachment, attachment}
 use Rattle.rules.specs.Table.{records, guest_of, domain_of}
 use Rattle.rules.specs.Handlers.{domain_exists}
 use Rattle.rules.specs.Sound.{guest}
-use Rattle.map_steps.specs.Forms.{form_good}
+use Rattle.map_steps.specs.Forms.{limits_at, form_good}
 
 -- the attachments of guest g, among the first n endpoints
 abbrev pub attachments_of : Guest → ℕ → List ℕ → List ℕ → List ℕ → List Attachment
@@ -23,7 +22,7 @@ follows r s = ltb r.key s.key || (eqb r.key s.key && ltb r.end s.start)
 
 -- the record's guest is one, and steps 2 to 6 of MAP pass for it
 unfoldable pub own_good : Settings → Mapping → Bool
-own_good s r = ltb (guest_of r) s.guests && form_good s.mask s.input (window_first s (guest_of r)) (window_last s (guest_of r)) r
+own_good s r = ltb (guest_of r) s.guests && form_good (limits_at s (guest_of r)) r
 
 -- a domain exists for a guest, by an attachment of one of the first n endpoints
 abbrev pub domain_held : ℕ → List ℕ → List ℕ → List ℕ → Guest → Domain → Bool

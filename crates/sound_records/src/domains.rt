@@ -1,11 +1,11 @@
 // Step 1 of MAP for a record: its domain exists.
-ghost use Rattle.std.specs.Prelude.{◌≡◌, ◌≤◌, ◌<◌, length};
+ghost use Rattle.std.specs.Prelude.{◌≡◌, ◌≤◌, ◌<◌};
 ghost use Rattle.rules.specs.Sizes.{max_endpoints};
 ghost use Rattle.rules.specs.Table.{domain_of};
 ghost use Rattle.sound_records.specs.Scan as spec;
 
 use rules::sizes::{DOMAIN_SPAN, MAX_ENDPOINTS};
-use rules::{Domain, Guest, Mapping};
+use rules::{Domain, Guest, Mapping, State};
 
 // The slots of the hints.
 const SLOTS: usize = 64;
@@ -21,23 +21,18 @@ pub(crate) fn domain_of(r: Mapping) -> Domain
     Domain(domain as u32)
 }
 
-// Whether an endpoint of guest g is attached to domain d, among the first n endpoints.
-fn domain_good<'a>(
-    n: usize,
-    owners: &'a [u8],
-    attached: &'a [u8; MAX_ENDPOINTS],
-    domains: &'a [u32; MAX_ENDPOINTS],
-    g: Guest,
-    d: Domain,
-) -> bool
-    requires { (n ≤ max_endpoints) × (n ≤ length owners.now) }
-    ensures { result ≡ spec.domain_held n owners.now attached.now domains.now g d }
+// Whether a listed endpoint of guest g is attached to domain d.
+fn domain_good(s: &State, g: Guest, d: Domain) -> bool
+    requires { s.now.listed ≤ max_endpoints }
+    ensures { result ≡ spec.domain_held s.now.listed s.now.owners s.now.attached s.now.domains g d }
 {
     let guest = g.0;
     let domain = d.0;
     let mut found = false;
-    for j in 0..n {
-        found = found | ((owners[j] == guest) & ((attached[j] == 1) & (domains[j] == domain)));
+    // By place: three arrays of the state are walked side by side.
+    for j in 0..s.listed {
+        found = found
+            | ((s.owners[j] == guest) & ((s.attached[j] == 1) & (s.domains[j] == domain)));
     }
     found
 }
@@ -51,18 +46,14 @@ fn slot_of(g: Guest, d: Domain) -> usize
 
 // For each slot a place at which an endpoint stands that is attached to a domain of that slot, or 0. These are hints: whoever
 // uses one looks whether the endpoint is there.
-pub(crate) fn hints_of<'a>(
-    n: usize,
-    owners: &'a [u8],
-    attached: &'a [u8; MAX_ENDPOINTS],
-    domains: &'a [u32; MAX_ENDPOINTS],
-) -> [u8; SLOTS]
-    requires { (n ≤ max_endpoints) × (n ≤ length owners.now) }
+pub(crate) fn hints_of(s: &State) -> [u8; SLOTS]
+    requires { s.now.listed ≤ max_endpoints }
 {
     let mut hints: [u8; SLOTS] = [0; SLOTS];
-    for j in 0..n {
-        if attached[j] == 1 {
-            let slot = slot_of(Guest(owners[j]), Domain(domains[j]));
+    // By place: three arrays of the state are walked side by side.
+    for j in 0..s.listed {
+        if s.attached[j] == 1 {
+            let slot = slot_of(Guest(s.owners[j]), Domain(s.domains[j]));
             hints[slot] = j as u8;
         }
     }
@@ -70,24 +61,16 @@ pub(crate) fn hints_of<'a>(
 }
 
 // What domain_good gives: first the place that the hint names is looked at, then all.
-pub(crate) fn domain_held<'a>(
-    n: usize,
-    owners: &'a [u8],
-    attached: &'a [u8; MAX_ENDPOINTS],
-    domains: &'a [u32; MAX_ENDPOINTS],
-    hints: &'a [u8; SLOTS],
-    g: Guest,
-    d: Domain,
-) -> bool
-    requires { (n ≤ max_endpoints) × (n ≤ length owners.now) }
-    ensures { result ≡ spec.domain_held n owners.now attached.now domains.now g d }
+pub(crate) fn domain_held(s: &State, hints: &[u8; SLOTS], g: Guest, d: Domain) -> bool
+    requires { s.now.listed ≤ max_endpoints }
+    ensures { result ≡ spec.domain_held s.now.listed s.now.owners s.now.attached s.now.domains g d }
 {
     let slot = slot_of(g, d);
     let j = (hints[slot] % PLACES) as usize;
-    if j < n {
-        if (owners[j] == g.0) & ((attached[j] == 1) & (domains[j] == d.0)) {
+    if j < s.listed {
+        if (s.owners[j] == g.0) & ((s.attached[j] == 1) & (s.domains[j] == d.0)) {
             return true;
         }
     }
-    domain_good(n, owners, attached, domains, g, d)
+    domain_good(s, g, d)
 }

@@ -119,7 +119,7 @@ module _ (d : Device) (f : Framed d) (p : Placed d.state) where
 
   -- the record is of the domain beside the endpoint's flag, and on one of its regions
   abbrev bars : ℕ → Mapping → Bool
-  bars i r = of_key (key_at owners domains i) r && on_region (held_regions d.state.regions i) r
+  bars i r = of_key (key_at d.state i) r && on_region (held_regions d.state.regions i) r
 
   -- ONE RECORD
 
@@ -202,21 +202,21 @@ module _ (d : Device) (f : Framed d) (p : Placed d.state) where
       (on r (λ i k e. not-true _ (both_left (not (bars i r)) _ (h i k e))))
       (clear-all l (λ i k e. both_right (not (bars i r)) _ (h i k e)))
 
-  by-endpoint : InOrder live → all? (record_clear (config_of d.state) (read d)) live ≡ below n (endpoint_clear live owners attached domains d.state.regions)
+  by-endpoint : InOrder live → all? (record_clear (config_of d.state) (read d)) live ≡ below n (endpoint_clear live d.state)
   by-endpoint o =
-      same_test (all? (record_clear (config_of d.state) (read d)) live) (below n (endpoint_clear live owners attached domains d.state.regions))
+      same_test (all? (record_clear (config_of d.state) (read d)) live) (below n (endpoint_clear live d.state))
       (λ c. below_all n _ (λ i h. clear i (eqb (get_or attached i 0) 1) refl (λ e. fails-all (bars i) live (all-imp (record_clear (config_of d.state) (read d)) (λ r. not (bars i r)) live (λ r k. rw (off r k i h e)) c))))
-      (λ c. clear-all live (λ i h e. none_passes (bars i) live (met i e (below_at n (endpoint_clear live owners attached domains d.state.regions) i c h))))
+      (λ c. clear-all live (λ i h e. none_passes (bars i) live (met i e (below_at n (endpoint_clear live d.state) i c h))))
     where
-      clear : (i : ℕ) (b : Bool) → eqb (get_or attached i 0) 1 ≡ b → (b ≡ true → any? (bars i) live ≡ false) → (not b || not (regions_met (key_at owners domains i) live (held_regions d.state.regions i))) ≡ true
-      clear i true e m = rw (regions-met (key_at owners domains i) live (held_regions d.state.regions i) o, m refl)
+      clear : (i : ℕ) (b : Bool) → eqb (get_or attached i 0) 1 ≡ b → (b ≡ true → any? (bars i) live ≡ false) → (not b || not (regions_met (key_at d.state i) live (held_regions d.state.regions i))) ≡ true
+      clear i true e m = rw (regions-met (key_at d.state i) live (held_regions d.state.regions i) o, m refl)
       clear i false e m = refl
 
-      met : (i : ℕ) → eqb (get_or attached i 0) 1 ≡ true → endpoint_clear live owners attached domains d.state.regions i ≡ true → any? (bars i) live ≡ false
-      met i e c = sym (regions-met (key_at owners domains i) live (held_regions d.state.regions i) o) ∙ not-true _ (rw e at c)
+      met : (i : ℕ) → eqb (get_or attached i 0) 1 ≡ true → endpoint_clear live d.state i ≡ true → any? (bars i) live ≡ false
+      met i e c = sym (regions-met (key_at d.state i) live (held_regions d.state.regions i) o) ∙ not-true _ (rw e at c)
 
   -- where the records are in order, the code's test is that of soundness
-  pub reserved-are : InOrder live → regions_good n d.state.live owners attached domains d.state.regions d.table ≡ every? (reserved_tests d)
+  pub reserved-are : InOrder live → regions_good d.state d.table ≡ every? (reserved_tests d)
   unfolding regions_good read
   reserved-are o =
       rw (le-leb n max_endpoints few)

@@ -4,8 +4,8 @@ ghost use Rattle.laws.specs.Lists.{every?};
 ghost use Rattle.rules.specs.Sizes.{max_endpoints, region_places};
 ghost use Rattle.rules.specs.Configuration.{endpoint_regions, used_words};
 ghost use Rattle.rules.specs.Sound.{zero_from, region_zeros};
-ghost use Rattle.sound_regions.specs.Clear.{regions_alone};
 
+use rules::State;
 use rules::sizes::{ENDPOINT_REGION_WORDS, MAX_REGIONS, REGION_WORDS};
 use sound_zeros::zero_from;
 
@@ -26,14 +26,15 @@ fn rest_zero(regions: &[u64], i: usize) -> bool
     zero_from(&regions[first..end], 1 + REGION_WORDS * (count as usize))
 }
 
-// Whether the words that are not in use for a region of the first n endpoints are zero.
-pub(crate) fn unused_zero(regions: &[u64], n: usize) -> bool
-    requires { (n ≤ max_endpoints) × (length regions.now ≡ region_places) }
-    ensures { result ≡ every? (region_zeros (regions_alone n regions.now)) }
+// Whether the words that are not in use for a region of the listed endpoints are zero.
+pub(crate) fn unused_zero(s: &State) -> bool
+    requires { s.now.listed ≤ max_endpoints }
+    ensures { result ≡ every? (region_zeros s.now) }
 {
     let mut ok = true;
-    for i in 0..n {
-        ok = rest_zero(regions, i) & ok;
+    // By place: an endpoint's words begin where its place says.
+    for i in 0..s.listed {
+        ok = rest_zero(&s.regions, i) & ok;
     }
-    zero_from(regions, ENDPOINT_REGION_WORDS * n) & ok
+    zero_from(&s.regions, ENDPOINT_REGION_WORDS * s.listed) & ok
 }

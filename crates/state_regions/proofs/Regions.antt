@@ -1,12 +1,11 @@
 -- Laws of the regions that words hold for an endpoint.
 use Prim.Native.Nat.{ℕ, ◌+◌, ◌≤◌, ◌<◌, min}
 use mathlib.Core.Path.{◌≡◌, refl, sym, ap, ◌∙◌}
-use mathlib.Core.Bool.{Bool, true, false, cond, ◌||◌, or_assoc, or-false}
+use mathlib.Core.Bool.{Bool, false, ◌||◌, or_assoc, or-false}
 use mathlib.Core.List.{List}
 use native.Mathlib.Omega.{arith}
-use lib.Dec.{ltb}
 use lib.ListN.{length, drop, drop_of_length-le, get_or-eq_default}
-use borrow.Author.Tests.{ltb-true, lt-ltb, le-ltb}
+use borrow.Author.Tests.{lt-ltb}
 use Rattle.laws.specs.Lists.{any?, tab}
 use Rattle.laws.proofs.Rounds.{drop-next}
 use Rattle.laws.proofs.Tables.{length-tab, get_d-tab}
@@ -16,19 +15,8 @@ use Rattle.rules.specs.Configuration.{region_count, region_at, regions_at}
 use Rattle.state_regions.specs.Held.{held_count, held_regions, held_region, no_region}
 
 module _ (w : List ℕ) (i : ℕ) where
-  pub count_past : max_endpoints ≤ i → 0 ≡ held_count w i
-  count_past h = rw (le-ltb i max_endpoints h)
-
-  pub count-in : i < max_endpoints → held_count w i ≡ min (region_count w i) max_regions
+  count-in : i < max_endpoints → held_count w i ≡ min (region_count w i) max_regions
   count-in h = rw (lt-ltb i max_endpoints h)
-
-  -- an endpoint that has a region j is one of those there may be, and so is the region
-  pub region-within : (j : ℕ) → j < held_count w i → (i < max_endpoints) × (j < max_regions)
-  region-within j = go (ltb i max_endpoints) refl
-    where
-      go : (b : Bool) → ltb i max_endpoints ≡ b → j < cond b (min (region_count w i) max_regions) 0 → (i < max_endpoints) × (j < max_regions)
-      go true e h = (ltb-true i max_endpoints e, omega arith)
-      go false e h = absurd (omega arith)
 
   pub length-held : length (held_regions w i) ≡ held_count w i
   unfolding held_regions

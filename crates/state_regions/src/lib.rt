@@ -14,10 +14,7 @@ use rules::sizes::{ENDPOINT_REGION_WORDS, MAX_ENDPOINTS, MAX_REGIONS, REGION_WOR
 fn word_at(regions: &[u64], k: usize) -> u64
     ensures { result ≡ get_or regions.now k 0 }
 {
-    if k < regions.len() {
-        return regions[k];
-    }
-    0
+    regions.get(k).copied().unwrap_or(0)
 }
 
 // How many regions the endpoint at place i has, and no more than there are places for.
@@ -28,10 +25,7 @@ pub fn count_at(regions: &[u64], i: usize) -> usize
         return 0;
     }
     let n = word_at(regions, ENDPOINT_REGION_WORDS * i) as usize;
-    if n < MAX_REGIONS {
-        return n;
-    }
-    MAX_REGIONS
+    n.min(MAX_REGIONS)
 }
 
 // The region in the words for region j of the endpoint at place i.
@@ -54,11 +48,7 @@ pub fn region_at(regions: &[u64], i: usize, j: usize) -> Region
     if j < count_at(regions, i) {
         return load(regions, i, j);
     }
-    Region {
-        subtype: 0,
-        start: 0,
-        end: 0,
-    }
+    Region::default()
 }
 
 // Whether a region of the endpoint at place i has an address in common with those from a to b.
@@ -67,6 +57,7 @@ pub fn meets_at(regions: &[u64], i: usize, a: u64, b: u64) -> bool
 {
     let n = count_at(regions, i);
     let mut met = false;
+    // By place: a region is loaded from three words at a time.
     for j in 0..n {
         let q = region_at(regions, i, j);
         met = met | ((a <= q.end) & (q.start <= b));

@@ -10,7 +10,7 @@ use lib.ListN.{length, get_or, set, get_or-eq_default}
 use borrow.Author.Tests.{lt-ltb, le-ltb, eq-eqb, ne_eqb}
 use Rattle.rules.specs.declared.Guest.{Guest}
 use Rattle.state_fields.proofs.Rewriting.{Written, written_none, written-keep, written-to}
-use Rattle.state_log.proofs.Storing.{store-any}
+use Rattle.state_reset.proofs.Storing.{store-any}
 use Rattle.state_reset.specs.Changes.{zero_of, zeroed_of}
 
 -- of an array with a place for each endpoint, l, the places below i are as they are when the endpoints of guest g are detached

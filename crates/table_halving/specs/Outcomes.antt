@@ -1,10 +1,9 @@
 -- What a lookup gives.
-use Rattle.std.proofs.Math.Option.{Option, some, none}
+use Rattle.std.proofs.Math.Option as logic
+use Rattle.std.specs.Prelude.{Option, Some, None}
 use Rattle.rules.specs.declared.Mapping.{Mapping}
-use Rattle.table_lookup.specs.declared.Found.{Found}
-use Rattle.table_lookup.specs.declared.Found.TheVariants.{At, Nothing}
 
 -- a record, or none, from what the code gives
-unfoldable pub option_of : Found → Option Mapping
-option_of Nothing = none
-option_of (At r) = some r
+unfoldable pub option_of : Option Mapping → logic.Option Mapping
+option_of None = logic.none
+option_of (Some r) = logic.some r

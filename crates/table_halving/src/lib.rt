@@ -4,7 +4,6 @@
 
 mod covering;
 mod halving;
-mod record;
 mod search;
 
 ghost use Rattle.std.specs.Prelude.{◌≡◌, ◌^◌, ◌≤◌, length, take};
@@ -16,9 +15,9 @@ ghost use Rattle.table_halving.specs.Order.{InOrder};
 ghost use Rattle.table_halving.specs.Lookup.{covering, looked_up};
 
 use covering::{if_covering, if_flagged};
-pub use record::get_at;
 use rules::Access;
 pub use search::{Searched, last_record};
+pub use table_record::get_at;
 
 // The record that covers an address of the key's domain, of the first live records, which are in order.
 fn find_covering(t: &[u64], live: usize, key: u64, address: u64) -> Searched

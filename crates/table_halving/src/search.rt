@@ -5,14 +5,14 @@ ghost use Rattle.table_lookup.specs.Outcomes.{found_of};
 ghost use Rattle.table_halving.specs.Halving.{last_record, search_reads};
 
 use crate::halving::last_place;
-use crate::record::get_at;
+use rules::Mapping;
 use rules::sizes::RECORD_WORDS;
-use table_lookup::Found;
+use table_record::get_at;
 
 // What a search gives, and how many records it has read.
 #[derive(Clone, Copy)]
 pub struct Searched {
-    pub found: Found,
+    pub found: Option<Mapping>,
     pub reads: usize,
 }
 
@@ -32,7 +32,7 @@ pub fn last_record(t: &[u64], live: usize, key: u64, address: u64) -> Searched
 {
     if is_empty(t, live) {
         return Searched {
-            found: Found::Nothing,
+            found: None,
             reads: 0,
         };
     }
@@ -40,7 +40,7 @@ pub fn last_record(t: &[u64], live: usize, key: u64, address: u64) -> Searched
     let r = get_at(t, place.word);
     let reads = place.reads + 1;
     Searched {
-        found: Found::At(r),
+        found: Some(r),
         reads,
     }
 }

@@ -1,11 +1,11 @@
 -- Laws of lists for loops that take elements out: those kept close up, and a part is filled with one value.
 use Prim.Native.Nat.{ℕ, zero, suc, ◌+◌, ◌-◌, ◌<◌, ◌≤◌}
-use mathlib.Core.Path.{◌≡◌, refl, ap, ◌∙◌}
+use mathlib.Core.Path.{◌≡◌, refl, ap}
 use mathlib.Core.Bool.{Bool, true}
 use mathlib.Core.List.{List, [], ◌∷◌, ◌++◌}
 use native.Mathlib.Omega.{arith}
 use native.Mathlib.Numerals.{add-one}
-use lib.ListN.{length, get_or, take, drop, set, replicate, length-take, replicate-append-replicate}
+use lib.ListN.{length, get_or, take, drop, set, replicate, length-take}
 use lib.Seq.{take-suc-set, take-set-lt, drop-set-lt, append_snoc}
 use borrow.Rule.Slice.PartMut.{mid_of, put_mid, mid_len, Post-is}
 use Rattle.laws.specs.Lists.{keep}
@@ -16,10 +16,6 @@ module _ {A : Type 0} where
   take-bounded zero l = refl
   take-bounded (suc n) [] = refl
   take-bounded (suc n) (x ∷ l) = ap (λ (m : List A). x ∷ m) (take-bounded n l)
-
-  -- one more element that is z
-  pub fill : (z : A) (i : ℕ) (l : List A) → i < length l → take i l ≡ replicate i z → take (i + 1) (set l i z) ≡ replicate (i + 1) z
-  fill z i l h e = rw (add-one i) (take-suc-set l i z h ∙ rw e (replicate-append-replicate i 1 z ∙ ap (λ (n : ℕ). replicate n z) (add-one i)))
 
 -- a list whose part from a to e came back filled with z
 pub filled : {A : Type 0} (z : A) (a e : ℕ) (l m : List A) → a ≤ e → e ≤ length l → m ≡ replicate (length (mid_of a (e - a) l)) z

@@ -24,6 +24,7 @@ fn close_up(t: &mut [u64], n: usize, low: u64, high: u64, a: u64, b: u64) -> usi
     ensures t_after { (take (record_words * result) t.new ≡ words (kept_of n low high a b t.old)) × (drop (record_words * n) t.new ≡ drop (record_words * n) t.old) }
 {
     let mut kept: usize = 0;
+    // By place: each record that is kept is written back to an earlier place of the same words.
     for i in 0..n {
         let r = table_record::get(t, i);
         if !is_within(r, low, high, a, b) {
@@ -38,9 +39,7 @@ fn close_up(t: &mut [u64], n: usize, low: u64, high: u64, a: u64, b: u64) -> usi
 pub fn clear(t: &mut [u64])
     ensures { t.new ≡ replicate (length t.old) 0 }
 {
-    for i in 0..t.len() {
-        t[i] = 0;
-    }
+    t.fill(0);
 }
 
 // The first live records without those with a key from low to high that lie inside the addresses from a to b, closed

@@ -7,7 +7,6 @@ ghost use Rattle.rules.specs.Access.{fault_bytes};
 
 use rules::Fault;
 use rules::sizes::FAULT_SIZE;
-use wire_numbers::copying::copy_in;
 use wire_numbers::placing::put_field;
 
 // Each byte of a fault record that no field takes.
@@ -17,8 +16,8 @@ const RESERVED: u8 = 0;
 fn fault_bytes(f: Fault) -> [u8; FAULT_SIZE]
     ensures { result ≡ fault_bytes f }
 {
-    let flags = f.flags as u64;
-    let endpoint = f.endpoint.0 as u64;
+    let flags = u64::from(f.flags);
+    let endpoint = u64::from(f.endpoint.0);
     let address = f.address;
     let mut bytes = [RESERVED; FAULT_SIZE];
     bytes[0] = f.reason;
@@ -33,7 +32,6 @@ pub fn put_fault(out: &mut [u8], f: Fault)
     ensures { out.new ≡ cond (leb fault_size (length out.old)) (fault_bytes f ++ drop fault_size out.old) out.old }
 {
     if FAULT_SIZE <= out.len() {
-        let bytes = fault_bytes(f);
-        copy_in(out, &bytes);
+        out[..FAULT_SIZE].copy_from_slice(&fault_bytes(f));
     }
 }

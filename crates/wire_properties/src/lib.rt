@@ -7,7 +7,6 @@ ghost use Rattle.wire_properties.specs.Properties.{property_put};
 
 use rules::Region;
 use rules::sizes::PROPERTY_SIZE;
-use wire_numbers::copying::copy_in;
 use wire_numbers::placing::put_field;
 
 // A property's type: a reserved region.
@@ -20,14 +19,12 @@ const LENGTH: u8 = 20;
 fn property_bytes(q: Region) -> [u8; PROPERTY_SIZE]
     ensures { result ≡ property_put q }
 {
-    let start = q.start;
-    let end = q.end;
     let mut bytes = [0; PROPERTY_SIZE];
     bytes[0] = RESERVED_REGION;
     bytes[2] = LENGTH;
     bytes[4] = (q.subtype % 256) as u8;
-    put_field(&mut bytes, 8, 8, start);
-    put_field(&mut bytes, 16, 8, end);
+    put_field(&mut bytes, 8, 8, q.start);
+    put_field(&mut bytes, 16, 8, q.end);
     bytes
 }
 
@@ -36,7 +33,6 @@ pub fn put_property(out: &mut [u8], q: Region)
     ensures { out.new ≡ cond (eqb (length out.old) property_size) (property_put q) out.old }
 {
     if out.len() == PROPERTY_SIZE {
-        let bytes = property_bytes(q);
-        copy_in(out, &bytes);
+        out.copy_from_slice(&property_bytes(q));
     }
 }

@@ -1,42 +1,45 @@
--- Laws of the lengths of requests.
+-- Laws of requests taken apart.
 use Prim.Native.Nat.{ℕ, zero, suc, ◌≤◌}
-use mathlib.Core.Path.{◌≡◌, refl, sym}
-use mathlib.Core.Bool.{Bool, true, false, cond, not, ◌&&◌}
+use mathlib.Core.Path.{◌≡◌, refl}
+use mathlib.Core.Bool.{◌&&◌}
 use mathlib.Core.List.{List}
-use mathlib.Core.Option.{some, none}
+use mathlib.Core.Option.{Option, some, none}
 use native.Mathlib.Omega.{arith}
-use lib.Dec.{eqb}
-use lib.ListN.{length}
-use borrow.Author.Tests.{le-ltb, le-leb}
-use Rattle.rules.specs.declared.Refusal.TheVariants.{WrongLength}
-use Rattle.rules.specs.Requests.{readable_length, writable_length, type_of}
-use Rattle.wire_requests.specs.declared.request.Request.TheVariants.{Refused}
-use Rattle.wire_requests.specs.Parsed.{Whole, asked, unless, parsed}
+use lib.Dec.{leb}
+use borrow.Author.Tests.{leb-true, not-false}
+use Rattle.std.specs.Prelude.{Ok, Err}
+use Rattle.laws.specs.Lists.{first_failing}
+use Rattle.laws.proofs.Tests.{both_left, both_right, cleared}
+use Rattle.rules.specs.declared.Refusal.{Refusal}
+use Rattle.rules.specs.Requests.{ATTACH, PROBE, request_refusals, type_of}
+use Rattle.wire_requests.specs.declared.request.Request.{Request}
+use Rattle.wire_requests.specs.Parsed.{asked, unless, parsed}
 
--- each known type has at least 20 readable bytes
-pub at_least : {t : ℕ} {r : List ℕ} → Whole t r → 20 ≤ length r
-at_least {t} w = rw w.sized (go t w.low w.high)
+-- a request with no failing step is of a known type
+pub known-type : (r : List ℕ) (n : ℕ) → first_failing (request_refusals r n) ≡ none → (ATTACH ≤ type_of r) × (type_of r ≤ PROBE)
+known-type r n e =
+    let k = not-false (leb ATTACH (type_of r) && leb (type_of r) PROBE) (cleared (request_refusals r n) e).1.0 in
+    (leb-true ATTACH (type_of r) (both_left (leb ATTACH (type_of r)) _ k), leb-true (type_of r) PROBE (both_right (leb ATTACH (type_of r)) _ k))
+
+-- one of a known type is not refused for its type
+pub asked-known : (r : List ℕ) (a : Refusal) → ATTACH ≤ type_of r → type_of r ≤ PROBE → asked r ≡ Err a → ⊥
+unfolding asked
+asked-known r a low high x = go (type_of r) refl low high
   where
-    go : (t : ℕ) → 1 ≤ t → t ≤ 5 → 20 ≤ readable_length t
-    go zero l h = absurd (omega arith)
-    go (suc zero) l h = omega arith
-    go (suc (suc zero)) l h = omega arith
-    go (suc (suc (suc zero))) l h = omega arith
-    go (suc (suc (suc (suc zero)))) l h = omega arith
-    go (suc (suc (suc (suc (suc zero))))) l h = omega arith
-    go (suc (suc (suc (suc (suc (suc t)))))) l h = absurd (omega arith)
+    go : (t : ℕ) → type_of r ≡ t → 1 ≤ t → t ≤ 5 → ⊥
+    go zero e l h = omega arith
+    go (suc zero) e l h = let y = rw e at x in cc
+    go (suc (suc zero)) e l h = let y = rw e at x in cc
+    go (suc (suc (suc zero))) e l h = let y = rw e at x in cc
+    go (suc (suc (suc (suc zero)))) e l h = let y = rw e at x in cc
+    go (suc (suc (suc (suc (suc zero))))) e l h = let y = rw e at x in cc
+    go (suc (suc (suc (suc (suc (suc t)))))) e l h = omega arith
 
--- the request is taken apart where its parts have m and w bytes, and is refused where not
-abbrev pub ByLengths : List ℕ → ℕ → ℕ → ℕ → Type 0
-ByLengths r n m w = (b : Bool) → (eqb (length r) m && eqb n w) ≡ b → parsed r n ≡ cond b (asked r) (Refused WrongLength)
-
--- of a part that is long enough and of a known type the two lengths decide
-pub by_lengths : (r : List ℕ) (n m w : ℕ) → 4 ≤ length r → 1 ≤ type_of r → type_of r ≤ 5 → m ≡ readable_length (type_of r) → w ≡ writable_length (type_of r) → ByLengths r n m w
-unfolding parsed unless
-by_lengths r n m w l low high e f b t =
-    rw (sym e, sym f, le-ltb (length r) 4 l, le-leb 1 (type_of r) low, le-leb (type_of r) 5 high, sym t) (go (eqb (length r) m) (eqb n w))
+-- a request that is parsed has no failing step, and its fields are what is asked
+pub parsed-asked : (q : Request) (r : List ℕ) (n : ℕ) → Ok q ≡ parsed r n → (first_failing (request_refusals r n) ≡ none) × (asked r ≡ Ok q)
+unfolding parsed
+parsed-asked q r n = go (first_failing (request_refusals r n)) refl
   where
-    go : (p q : Bool) → unless (cond (not p) (some WrongLength) (cond (not q) (some WrongLength) none)) (asked r) ≡ cond (p && q) (asked r) (Refused WrongLength)
-    go true true = refl
-    go true false = refl
-    go false q = refl
+    go : (m : Option Refusal) → first_failing (request_refusals r n) ≡ m → Ok q ≡ unless m (asked r) → (first_failing (request_refusals r n) ≡ none) × (asked r ≡ Ok q)
+    go none x y = unfold unless in (x, cc)
+    go (some a) x y = unfold unless in absurd cc

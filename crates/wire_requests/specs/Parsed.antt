@@ -1,5 +1,5 @@
--- A request taken apart: its first refusal, or its fields by its type.
-use Rattle.std.specs.Prelude.{ℕ, ◌≤◌, ◌≡◌, cond, List, eqb, length}
+-- A request taken apart: its fields by its type, or its first refusal.
+use Rattle.std.specs.Prelude.{ℕ, ◌≤◌, ◌≡◌, cond, List, eqb, length, Result, Ok, Err}
 use Rattle.std.proofs.Math.Option.{Option, some, none}
 use Rattle.laws.specs.Lists.{first_failing}
 use Rattle.rules.specs.declared.Refusal.{Refusal}
@@ -8,7 +8,7 @@ use Rattle.rules.specs.Requests.{ATTACH, DETACH, MAP, UNMAP, PROBE, readable_len
 use Rattle.wire_requests.specs.declared.request.MapFields.{MapFields}
 use Rattle.wire_requests.specs.declared.request.UnmapFields.{UnmapFields}
 use Rattle.wire_requests.specs.declared.request.Request.{Request}
-use Rattle.wire_requests.specs.declared.request.Request.TheVariants.{Refused, Attach, Detach, Map, Unmap, Probe}
+use Rattle.wire_requests.specs.declared.request.Request.TheVariants.{Attach, Detach, Map, Unmap, Probe}
 
 -- "domain 4, virt_start 8, virt_end 8, phys_start 8, flags 4", without the domain
 abbrev pub map_fields : List ℕ → MapFields
@@ -19,22 +19,22 @@ abbrev pub unmap_fields : List ℕ → UnmapFields
 unmap_fields r = record { start = virt_start r; end = virt_end r; reserved = unmap_reserved r }
 
 -- the fields of the readable part r, by its type as `handle` goes by it; a request of any other type is refused
-unfoldable pub asked : List ℕ → Request
+unfoldable pub asked : List ℕ → Result Request Refusal
 asked r =
-    cond (eqb (type_of r) ATTACH) (Attach (domain_field r) (endpoint_field r) (attach_reserved r))
-    (cond (eqb (type_of r) DETACH) (Detach (domain_field r) (endpoint_field r) (attach_reserved r))
-    (cond (eqb (type_of r) MAP) (Map (domain_field r) (map_fields r))
-    (cond (eqb (type_of r) UNMAP) (Unmap (domain_field r) (unmap_fields r))
-    (cond (eqb (type_of r) PROBE) (Probe (probe_endpoint r))
-    (Refused UnknownType)))))
+    cond (eqb (type_of r) ATTACH) (Ok (Attach (domain_field r) (endpoint_field r) (attach_reserved r)))
+    (cond (eqb (type_of r) DETACH) (Ok (Detach (domain_field r) (endpoint_field r) (attach_reserved r)))
+    (cond (eqb (type_of r) MAP) (Ok (Map (domain_field r) (map_fields r)))
+    (cond (eqb (type_of r) UNMAP) (Ok (Unmap (domain_field r) (unmap_fields r)))
+    (cond (eqb (type_of r) PROBE) (Ok (Probe (probe_endpoint r)))
+    (Err UnknownType)))))
 
 -- a refusal, or what is asked where there is none
-unfoldable pub unless : Option Refusal → Request → Request
+unfoldable pub unless : Option Refusal → Result Request Refusal → Result Request Refusal
 unless none x = x
-unless (some a) x = Refused a
+unless (some a) x = Err a
 
 -- the request in the readable part r, with a writable part of n bytes
-unfoldable pub parsed : List ℕ → ℕ → Request
+unfoldable pub parsed : List ℕ → ℕ → Result Request Refusal
 parsed r n = unless (first_failing (request_refusals r n)) (asked r)
 
 -- the readable part r is of the known type t and has that type's length

@@ -25,10 +25,9 @@ pub struct UnmapFields {
     pub reserved: u64,
 }
 
-// A request: refused, or its fields.
+// A request that is not refused: its fields.
 #[derive(Clone, Copy)]
 pub enum Request {
-    Refused(Refusal),
     // The third field is the reserved one.
     Attach(Domain, Endpoint, u64),
     Detach(Domain, Endpoint, u64),
@@ -110,27 +109,29 @@ fn probed_field(readable: &[u8]) -> Endpoint
 }
 
 // The fields of a request of a known type, whose readable part has that type's length.
-fn taken_apart(readable: &[u8], requested: u8) -> Request
+#[tactic(auto, unfolding(crate::specs::Parsed::asked))]
+fn taken_apart(readable: &[u8], requested: u8) -> Result<Request, Refusal>
     requires { Whole requested readable.now }
     ensures { result ≡ asked readable.now }
 {
     let domain = domain_field(readable);
     match requested {
-        ATTACH => Request::Attach(domain, endpoint_field(readable), reserved_field(readable)),
-        DETACH => Request::Detach(domain, endpoint_field(readable), reserved_field(readable)),
-        MAP => Request::Map(domain, map_fields(readable)),
-        UNMAP => Request::Unmap(domain, unmap_fields(readable)),
-        PROBE => Request::Probe(probed_field(readable)),
-        0 | 6..=255 => Request::Refused(Refusal::UnknownType),
+        ATTACH => Ok(Request::Attach(domain, endpoint_field(readable), reserved_field(readable))),
+        DETACH => Ok(Request::Detach(domain, endpoint_field(readable), reserved_field(readable))),
+        MAP => Ok(Request::Map(domain, map_fields(readable))),
+        UNMAP => Ok(Request::Unmap(domain, unmap_fields(readable))),
+        PROBE => Ok(Request::Probe(probed_field(readable))),
+        0 | 6..=255 => Err(Refusal::UnknownType),
     }
 }
 
-// The request in a readable part, with a writable part of so many bytes: the first refusal, or its fields.
-pub fn parse(readable: &[u8], writable: usize) -> Request
+// The request in a readable part, with a writable part of so many bytes: its fields, or the first refusal.
+#[tactic(auto, unfolding(crate::specs::Parsed::parsed, crate::specs::Parsed::unless))]
+pub fn parse(readable: &[u8], writable: usize) -> Result<Request, Refusal>
     ensures { result ≡ parsed readable.now writable }
 {
     if readable.len() < 4 {
-        return Request::Refused(Refusal::WrongLength);
+        return Err(Refusal::WrongLength);
     }
     let requested = readable[0];
     match requested {
@@ -140,9 +141,9 @@ pub fn parse(readable: &[u8], writable: usize) -> Request
             if (readable.len() == readable_length) & (writable == writable_length) {
                 taken_apart(readable, requested)
             } else {
-                Request::Refused(Refusal::WrongLength)
+                Err(Refusal::WrongLength)
             }
         }
-        0 | 6..=255 => Request::Refused(Refusal::UnknownType),
+        0 | 6..=255 => Err(Refusal::UnknownType),
     }
 }

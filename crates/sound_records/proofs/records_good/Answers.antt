@@ -1,11 +1,9 @@
-use native.Mathlib.Omega.{arith}
 use Prim.Native.Nat.{ℕ, ◌/◌}
 use mathlib.Core.Path.{◌≡◌}
 use mathlib.Core.Bool.{Bool, true, false, ◌&&◌, and-true}
 use mathlib.Core.List.{List}
 use lib.Dec.{leb, ltb}
 use lib.ListN.{length}
-use borrow.Author.Tests.{not-true, not-false}
 use Rattle.laws.specs.Lists.{every?}
 use Rattle.rules.specs.declared.Settings.{Settings}
 use Rattle.rules.specs.Sizes.{max_guests, max_endpoints, record_words}
@@ -18,18 +16,18 @@ use Rattle.sound_records.proofs.records_good.Goals as goal
 tested : (s : Settings) (listed live : ℕ) (t : List ℕ) (b : Bool) → (leb s.guests max_guests && (ltb 0 s.mask && (leb listed max_endpoints && leb live (length t / record_words)))) ≡ b → every? (room_tests s listed live t) ≡ b
 tested s listed live t b h = rw (length-records t, and-true) h
 
-pub returns-then-not-settings-listed : goal.returns-then-not-settings-listed
-returns-then-not-settings-listed c =
-    let a = c.args in
-    rw (tested a.settings a.listed a.live a.t.now false (c.if-not-settings-listed.true))
+pub returns-then-not-s-t : goal.returns-then-not-s-t
+returns-then-not-s-t c =
+    let s = c.args.s.now in
+    rw (tested s.settings s.listed s.live c.args.t.now false c.if-not-s-t.true)
 
 pub placed_good-requires : goal.placed_good-requires
 placed_good-requires c =
-    let a = c.args in
-    let p = room-facts a.settings a.listed a.live a.t.now (tested a.settings a.listed a.live a.t.now true (c.if-not-settings-listed.false)) in
-    (p.guests, p.mask, p.endpoints, omega (arith, p.endpoints, c.placed_good-arg-1.given), p.records)
+    let s = c.args.s.now in
+    let p = room-facts s.settings s.listed s.live c.args.t.now (tested s.settings s.listed s.live c.args.t.now true c.if-not-s-t.false) in
+    (p.guests, p.mask, p.endpoints, p.records)
 
 pub returns : goal.returns
 returns c =
-    let a = c.args in
-    rw (tested a.settings a.listed a.live a.t.now true (c.if-not-settings-listed.false)) c.placed_good.ensures
+    let s = c.args.s.now in
+    rw (tested s.settings s.listed s.live c.args.t.now true c.if-not-s-t.false) c.placed_good.ensures

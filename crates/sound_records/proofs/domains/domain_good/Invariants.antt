@@ -1,24 +1,16 @@
+-- found says whether an endpoint before place j is attached, and the rest are those from j on.
 use Rattle.sound_records.proofs.domains.domain_good.Given as goal
-use native.Mathlib.Omega.{arith}
-use borrow.Author.Rules.{rules}
-use Prim.Native.Nat.{ℕ, ◌≤◌, ◌-◌}
-use mathlib.Core.Path.{◌≡◌, refl, sym, ◌∙◌}
-use mathlib.Core.Bool.{◌||◌, or-false}
-use lib.ListN.{length, get_or, take, drop}
-use lib.Seq.{length-take-le, get_or-take}
-use mathlib.Core.Option.{none}
+use Prim.Native.Nat.{ℕ}
+use mathlib.Core.Path.{◌≡◌}
+use mathlib.Core.Bool.{◌||◌}
+use lib.ListN.{get_or, take, drop}
 use Rattle.laws.specs.Lists.{any?, pick_by, tab}
-use Rattle.laws.proofs.Tables.{length-tab, get_d-tab}
-use Rattle.rules.specs.State.{Attachment, attachment}
-use Rattle.rules.specs.Handlers.{domain_exists, is_in}
-use Rattle.laws.proofs.Owned.{owned-on, owned-end}
-use Rattle.sound_records.proofs.Attached.{named, in-attachment}
+use Rattle.rules.specs.State.{attachment}
+use Rattle.rules.specs.Handlers.{is_in}
+use Rattle.sound_records.proofs.Attached.{named}
 
 abbrev pub invariant-loop-j : goal.invariant-loop-j
 invariant-loop-j l =
-    (l.j ≤ l.n)
-    × (any? (is_in (named l.domain)) (pick_by l.guest (take l.n l.owners) (tab l.n (λ i. attachment (get_or l.attached i 0) (get_or l.domains i 0))))
-    ≡ (l.found || any? (is_in (named l.domain)) (pick_by l.guest (drop l.j (take l.n l.owners)) (drop l.j (tab l.n (λ i. attachment (get_or l.attached i 0) (get_or l.domains i 0)))))))
-
-abbrev pub decreases-loop-j : goal.decreases-loop-j
-decreases-loop-j l = l.n - l.j
+    let f = λ (i : ℕ). attachment (get_or l.s.attached i 0) (get_or l.s.domains i 0) in
+    any? (is_in (named l.domain)) (pick_by l.guest (take l.s.listed l.s.owners) (tab l.s.listed f))
+    ≡ (l.found || any? (is_in (named l.domain)) (pick_by l.guest (drop l.j (take l.s.listed l.s.owners)) (drop l.j (tab l.s.listed f))))

@@ -1,20 +1,12 @@
 use native.Mathlib.Omega.{arith}
-use borrow.Author.Rules.{rules}
-use Prim.Native.Nat.{◌-◌}
-use lib.ListN.{take}
-use Rattle.laws.proofs.Rounds.{Tested, tested-none, tested-next, tested-all}
-use Rattle.rules.specs.Table.{records}
-use Rattle.sound_regions.specs.Clear.{endpoint_clear}
+use Rattle.laws.proofs.Rounds.{tested-none, tested-next, tested-all}
 use Rattle.sound_regions.proofs.clear.records_clear.Goals as goal
 
+pub loop-i-init : goal.loop-i-init
+loop-i-init c = tested-none _ _
+
 pub loop-i-preserved : goal.loop-i-preserved
-loop-i-preserved c =
-    tested-next c.args.n _ c.loop-i.ok c.endpoint_clear-ok.result c.loop-i.i c.loop-i.invariant (omega arith) c.endpoint_clear-ok.ensures
+loop-i-preserved c = tested-next c.args.s.now.listed _ c.loop-i.ok c.endpoint_clear-ok.result c.loop-i.i c.loop-i.invariant (omega arith) c.endpoint_clear-ok.ensures
 
 pub returns : goal.returns
-returns c =
-    tested-all c.args.n _ c.loop-i.ok c.loop-i.i c.loop-i.invariant (omega arith)
-
-pub loop-i-init : goal.loop-i-init
-loop-i-init c =
-    tested-none _ _
+returns c = tested-all c.args.s.now.listed _ c.loop-i.ok c.loop-i.i c.loop-i.invariant (omega arith)

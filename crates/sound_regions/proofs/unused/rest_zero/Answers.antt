@@ -1,4 +1,3 @@
-use borrow.Author.Rules.{rules}
 use mathlib.Core.Path.{◌∙◌}
 use Rattle.sound_regions.proofs.Rest.{rest-none, rest_of}
 use Rattle.sound_regions.proofs.unused.rest_zero.Goals as goal

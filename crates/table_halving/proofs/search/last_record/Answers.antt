@@ -4,12 +4,12 @@ use mathlib.Core.Path.{◌≡◌, sym, ap, ◌∙◌}
 use lib.ListN.{length, get_or, take, length-take}
 use lib.Seq.{get_or-take}
 use borrow.Author.Tests.{le-leb, eqb-true, eqb-false}
+use Rattle.std.specs.Prelude.{Some}
 use Rattle.rules.specs.Sizes.{record_words}
 use Rattle.rules.specs.Table.{records}
 use Rattle.rules.proofs.Words.{length-records}
 use Rattle.table_record.specs.Records.{no_mapping}
 use Rattle.table_record.proofs.Words.{loaded-record}
-use Rattle.table_lookup.specs.declared.Found.TheVariants.{At}
 use Rattle.table_lookup.specs.Outcomes.{found_of}
 use Rattle.table_search.specs.Halving.{last_up_to}
 use Rattle.table_search.proofs.Ordered.{last_within}
@@ -47,7 +47,7 @@ returns-clause-found_value c =
     let within : place < length l = last_within a.key a.address l filled in
     let held : record_words * place + record_words ≤ length a.t.now = omega (arith, within, length-take a.live (records a.t.now), length-records a.t.now) in
     let read : c.get_at-r.result ≡ get_or l place no_mapping = c.get_at-r.ensures ∙ rw (c.last_place-place.ensures.word_value, le-leb (record_words * place + record_words) (length a.t.now) held) (loaded-record a.t.now place (omega (arith, within, length-take a.live (records a.t.now))) ∙ sym (get_or-take a.live (records a.t.now) place no_mapping (omega (arith, within, length-take a.live (records a.t.now))))) in
-    ap At read ∙ sym (ap found_of (last_some a.key a.address l filled))
+    ap Some read ∙ sym (ap found_of (last_some a.key a.address l filled))
 
 pub returns-clause-reads_value : goal.returns-clause-reads_value
 returns-clause-reads_value c =

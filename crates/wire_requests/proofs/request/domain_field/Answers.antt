@@ -1,6 +1,0 @@
-use borrow.Author.Rules.{rules}
-use Rattle.wire_requests.proofs.request.domain_field.Goals as goal
-
-pub returns : goal.returns
-returns c =
-    rw c.u32_at.ensures

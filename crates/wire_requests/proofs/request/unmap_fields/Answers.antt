@@ -1,5 +1,0 @@
-use borrow.Author.Rules.{rules}
-use Rattle.wire_requests.proofs.request.unmap_fields.Goals as goal
-
-pub returns : goal.returns
-returns c = rw (c.field_at-start.ensures.0, c.field_at-end.ensures.0, c.field_at-reserved.ensures.0, c.requires)
