@@ -6,17 +6,17 @@ use mathlib.Core.List.{List, [], ◌∷◌}
 use mathlib.Core.Option.{Option, some}
 use native.Mathlib.Omega.{arith}
 use lib.Dec.{leb, ltb, eqb}
-use lib.ListN.{length, get_or, take}
-use borrow.Author.Tests.{lt-ltb, le-leb, leb-true, eqb-true, eq-eqb}
+use lib.ListN.{length, take}
+use borrow.Author.Tests.{lt-ltb, le-leb, leb-true, eq-eqb}
 use Rattle.laws.specs.Lists.{all?, every?, first_failing}
-use Rattle.laws.proofs.Tests.{both, both_left, both_right, true-false, same_test, opened, cleared}
+use Rattle.laws.proofs.Tests.{both, both_left, both_right, true-false, same_test, cleared}
 use Rattle.laws.proofs.Filters.{all-imp}
 use Rattle.laws.proofs.Tables.{below_at, below_all}
 use Rattle.laws.proofs.Owners.{owner-among}
 use Rattle.rules.specs.declared.Settings.{Settings}
 use Rattle.rules.specs.declared.Mapping.{Mapping}
 use Rattle.rules.specs.Sizes.{max_guests, max_endpoints, endpoint_region_words, max_records, record_words, table_words}
-use Rattle.rules.specs.Configuration.{share, list_tests, good_settings, good_lists, good_regions, good}
+use Rattle.rules.specs.Configuration.{share, good_settings, good_lists, good_regions, good}
 use Rattle.rules.specs.Table.{records, guest_of, domain_of}
 use Rattle.rules.specs.State.{Device, config_of, read}
 use Rattle.rules.specs.Guests.{own, part, records_of}
@@ -224,7 +224,7 @@ module _ (d : Device) (f : Framed d) where
 
   -- where the other tests pass, those of the reserved regions decide
   pub decided : Placed d.state → Logged d.state → zero_from (record_words * d.state.live) d.table ≡ true → records-pass ≡ true
-      → regions_good d.state.listed d.state.live d.state.owners d.state.attached d.state.domains d.state.regions d.table ≡ sound d
+      → regions_good d.state d.table ≡ sound d
   decided p l z h =
       reserved-are d f p (ordered z h)
       ∙ same_test (every? (reserved_tests d)) (sound d)

@@ -1,7 +1,6 @@
-use mathlib.Core.Path.{◌≡◌, refl, sym, ◌∙◌}
+use mathlib.Core.Path.{refl, sym, ◌∙◌}
 use mathlib.Core.Bool.{true, false}
-use Rattle.rules.specs.State.{Device}
-use Rattle.rules.proofs.Groups.{Framed, frame-facts, place-facts, log_facts}
+use Rattle.rules.proofs.Groups.{frame-facts, place-facts, log_facts}
 use Rattle.sound.specs.Assembled.{device_of}
 use Rattle.sound.proofs.Verdict.{granted, guests-fit, endpoints-fit, room, frame-fails, places-fail, logs-fail, zeros-fail, records-fail, decided}
 use Rattle.sound.proofs.tests_pass.Goals as goal

@@ -1,6 +1,5 @@
 use native.Mathlib.Omega.{arith}
-use borrow.Author.Rules.{rules}
-use borrow.Author.Tests.{lt-leb, le-leb}
+use borrow.Author.Tests.{le-leb}
 use mathlib.Core.Path.{sym, ◌∙◌}
 use Rattle.rules.specs.Sizes.{max_endpoints}
 use Rattle.sound_logs.proofs.NoFaults.{no-faults}

@@ -1,12 +1,7 @@
 use native.Mathlib.Omega.{arith}
 use borrow.Author.Rules.{rules}
-use Prim.Native.Nat.{◌+◌, ◌*◌, ◌-◌}
 use mathlib.Core.Path.{◌∙◌}
-use lib.ListN.{get_or}
-use Rattle.laws.specs.Lists.{below, pick_by}
-use Rattle.laws.proofs.Rounds.{Tested, tested-none, tested-next, tested-all}
-use Rattle.rules.specs.Sizes.{max_guests, max_faults}
-use Rattle.sound_logs.specs.Faults.{place_good}
+use Rattle.laws.proofs.Rounds.{tested-none, tested-next, tested-all}
 use Rattle.sound_logs.proofs.Logs.{logs-good}
 use Rattle.sound_logs.proofs.places_good.Goals as goal
 

@@ -1,15 +1,11 @@
 use Rattle.sound_logs.proofs.places_good.Given as goal
-use native.Mathlib.Omega.{arith}
-use borrow.Author.Rules.{rules}
 use Prim.Native.Nat.{◌+◌, ◌*◌, ◌-◌}
-use mathlib.Core.Path.{◌∙◌}
 use lib.ListN.{get_or}
 use Rattle.laws.specs.Lists.{below, pick_by}
-use Rattle.laws.proofs.Rounds.{Tested, tested-none, tested-next, tested-all}
+use Rattle.laws.proofs.Rounds.{Tested}
 use Rattle.rules.specs.Sizes.{max_guests, max_faults}
 use Rattle.rules.specs.State.{fault_at}
 use Rattle.sound_logs.specs.Faults.{place_good}
-use Rattle.sound_logs.proofs.Logs.{logs-good}
 
 abbrev pub invariant-loop-g : goal.invariant-loop-g
 invariant-loop-g l =

@@ -1,6 +1,6 @@
 use native.Mathlib.Omega.{arith}
 use borrow.Author.Rules.{rules}
-use borrow.Author.Tests.{lt-leb, le-leb}
+use borrow.Author.Tests.{le-leb}
 use Rattle.rules.specs.Sizes.{max_guests, max_endpoints}
 use Rattle.sound_places.proofs.Places.{places-are}
 use Rattle.sound_places.proofs.places_good.Goals as goal

@@ -1,3 +1,4 @@
+use borrow.Author.Rules.{rules}
 use lib.ListN.{take}
 use Rattle.rules.specs.Table.{records}
 use Rattle.rules.specs.Access.{find_mapping}
@@ -9,16 +10,16 @@ overflow_sub-a c =
     let l = c.find_mapping in
     let a = c.args in
     let R = take a.live (records a.t.now) in
-    starts-before a.key a.a R c.in-Some.r (found-record l.result (find_mapping a.key a.a R) l.ensures c.in-Some.r c.in-Some.is)
+    starts-before a.key a.a R c.in-At.r (found-record l.result (find_mapping a.key a.a R) l.ensures c.in-At.r c.in-At.is)
 
-pub returns-in-Some : goal.returns-in-Some
-returns-in-Some c =
+pub returns-in-At : goal.returns-in-At
+returns-in-At c =
     let l = c.find_mapping in
     let a = c.args in
-    answers-through l.result (find_mapping a.key a.a (take a.live (records a.t.now))) l.ensures a.a c.in-Some.r c.landing.result c.in-Some.is c.landing.ensures
+    answers-through l.result (find_mapping a.key a.a (take a.live (records a.t.now))) l.ensures a.a c.in-At.r c.landing.result c.in-At.is c.landing.ensures
 
-pub returns-in-None : goal.returns-in-None
-returns-in-None c =
+pub returns-in-Nothing : goal.returns-in-Nothing
+returns-in-Nothing c =
     let l = c.find_mapping in
     let a = c.args in
-    answers-unmapped l.result (find_mapping a.key a.a (take a.live (records a.t.now))) l.ensures a.a c.in-None.is
+    answers-unmapped l.result (find_mapping a.key a.a (take a.live (records a.t.now))) l.ensures a.a c.in-Nothing.is

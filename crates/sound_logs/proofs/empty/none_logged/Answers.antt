@@ -1,11 +1,6 @@
 use native.Mathlib.Omega.{arith}
-use borrow.Author.Rules.{rules}
-use Prim.Native.Nat.{◌-◌}
 use mathlib.Core.Path.{refl}
-use lib.Dec.{eqb}
-use lib.ListN.{get_or}
-use Rattle.laws.proofs.Rounds.{Tested, tested-none, tested-next, tested-all}
-use Rattle.rules.specs.Sizes.{max_guests}
+use Rattle.laws.proofs.Rounds.{tested-none, tested-next}
 use Rattle.sound_logs.proofs.empty.none_logged.Goals as goal
 
 pub loop-g-preserved : goal.loop-g-preserved

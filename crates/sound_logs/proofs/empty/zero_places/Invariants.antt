@@ -1,15 +1,10 @@
 use Rattle.sound_logs.proofs.empty.zero_places.Given as goal
-use native.Mathlib.Omega.{arith}
-use borrow.Author.Rules.{rules}
 use Prim.Native.Nat.{◌+◌, ◌-◌}
-use mathlib.Core.Path.{refl}
 use mathlib.Core.Bool.{◌&&◌}
 use lib.Dec.{eqb}
-use lib.ListN.{get_or}
-use Rattle.laws.proofs.Rounds.{Tested, tested-none, tested-next, tested-all}
+use Rattle.laws.proofs.Rounds.{Tested}
 use Rattle.rules.specs.Sound.{fault_zero}
 use Rattle.rules.specs.State.{fault_at}
-use Rattle.sound_logs.proofs.NoFaults.{zero-round}
 
 abbrev pub invariant-loop-j : goal.invariant-loop-j
 invariant-loop-j l =

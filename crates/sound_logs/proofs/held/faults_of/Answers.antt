@@ -1,10 +1,5 @@
 use native.Mathlib.Omega.{arith}
-use borrow.Author.Rules.{rules}
-use Prim.Native.Nat.{◌+◌, ◌-◌}
-use Rattle.laws.specs.Lists.{pick_by}
-use Rattle.laws.proofs.Rounds.{Tested, tested-none, tested-next, tested-all}
-use Rattle.rules.specs.Sound.{fault_good}
-use Rattle.sound_logs.specs.Faults.{endpoints_alone}
+use Rattle.laws.proofs.Rounds.{tested-none, tested-next}
 use Rattle.sound_logs.proofs.held.faults_of.Goals as goal
 
 pub loop-j-preserved : goal.loop-j-preserved

@@ -1,9 +1,7 @@
 use Rattle.sound_logs.proofs.held.faults_of.Given as goal
-use native.Mathlib.Omega.{arith}
-use borrow.Author.Rules.{rules}
 use Prim.Native.Nat.{◌+◌, ◌-◌}
 use Rattle.laws.specs.Lists.{pick_by}
-use Rattle.laws.proofs.Rounds.{Tested, tested-none, tested-next, tested-all}
+use Rattle.laws.proofs.Rounds.{Tested}
 use Rattle.rules.specs.Sound.{fault_good}
 use Rattle.rules.specs.State.{fault_at}
 use Rattle.sound_logs.specs.Faults.{endpoints_alone}

@@ -1,5 +1,3 @@
-use native.Mathlib.Omega.{arith}
-use borrow.Author.Rules.{rules}
 use Prim.Native.Nat.{◌*◌}
 use Rattle.laws.specs.Lists.{pick_by}
 use Rattle.rules.specs.Sizes.{max_faults}

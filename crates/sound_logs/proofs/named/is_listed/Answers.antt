@@ -1,14 +1,9 @@
 use native.Mathlib.Omega.{arith}
-use borrow.Author.Rules.{rules}
-use Prim.Native.Nat.{◌≤◌, ◌-◌}
-use mathlib.Core.Path.{◌≡◌, refl, sym, ◌∙◌}
-use mathlib.Core.Bool.{◌||◌, or-false}
+use mathlib.Core.Path.{sym, ◌∙◌}
+use mathlib.Core.Bool.{or-false}
 use lib.Dec.{eqb}
-use lib.ListN.{drop}
-use Rattle.laws.specs.Lists.{any?, pick_by}
-use Rattle.rules.specs.Sizes.{max_endpoints}
 use Rattle.rules.specs.Handlers.{listed}
-use Rattle.laws.proofs.Owned.{owned-on, owned-end}
+use Rattle.laws.proofs.Owned.{owned-end}
 use Rattle.sound_logs.proofs.named.is_listed.Goals as goal
 
 pub returns : goal.returns

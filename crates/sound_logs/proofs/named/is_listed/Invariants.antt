@@ -1,15 +1,11 @@
 use Rattle.sound_logs.proofs.named.is_listed.Given as goal
-use native.Mathlib.Omega.{arith}
-use borrow.Author.Rules.{rules}
 use Prim.Native.Nat.{◌≤◌, ◌-◌}
-use mathlib.Core.Path.{◌≡◌, refl, sym, ◌∙◌}
-use mathlib.Core.Bool.{◌||◌, or-false}
+use mathlib.Core.Path.{◌≡◌}
+use mathlib.Core.Bool.{◌||◌}
 use lib.Dec.{eqb}
 use lib.ListN.{drop}
 use Rattle.laws.specs.Lists.{any?, pick_by}
 use Rattle.rules.specs.Sizes.{max_endpoints}
-use Rattle.rules.specs.Handlers.{listed}
-use Rattle.laws.proofs.Owned.{owned-on, owned-end}
 
 abbrev pub invariant-loop-j : goal.invariant-loop-j
 invariant-loop-j l =

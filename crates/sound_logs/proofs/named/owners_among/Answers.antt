@@ -1,10 +1,7 @@
 use native.Mathlib.Omega.{arith}
-use borrow.Author.Rules.{rules}
-use Prim.Native.Nat.{◌≤◌, ◌-◌}
-use mathlib.Core.Path.{◌≡◌, refl}
-use lib.ListN.{length}
+use mathlib.Core.Path.{refl}
 use Rattle.rules.specs.Sizes.{max_endpoints}
-use Rattle.state_fields.proofs.Rewriting.{Written, written_none, written-store, written_all}
+use Rattle.state_fields.proofs.Rewriting.{written-store, written_all}
 use Rattle.sound_logs.specs.Faults.{owner_among}
 use Rattle.sound_logs.proofs.named.owners_among.Goals as goal
 

@@ -1,11 +1,9 @@
 use Rattle.sound_logs.proofs.named.owners_among.Given as goal
-use native.Mathlib.Omega.{arith}
-use borrow.Author.Rules.{rules}
 use Prim.Native.Nat.{◌≤◌, ◌-◌}
-use mathlib.Core.Path.{◌≡◌, refl}
+use mathlib.Core.Path.{◌≡◌}
 use lib.ListN.{length}
 use Rattle.rules.specs.Sizes.{max_endpoints}
-use Rattle.state_fields.proofs.Rewriting.{Written, written_none, written-store, written_all}
+use Rattle.state_fields.proofs.Rewriting.{Written}
 use Rattle.sound_logs.specs.Faults.{owner_among}
 
 abbrev pub invariant-loop-j : goal.invariant-loop-j

@@ -1,5 +1,5 @@
 use native.Mathlib.Omega.{arith}
-use Rattle.laws.proofs.Rounds.{tested-none, tested-next, tested-all}
+use Rattle.laws.proofs.Rounds.{tested-none, tested-next}
 use Rattle.rules.specs.Sizes.{max_endpoints}
 use Rattle.sound_places.proofs.endpoints.endpoints_good.Goals as goal
 

@@ -1,6 +1,5 @@
 use native.Mathlib.Omega.{arith}
-use borrow.Author.Rules.{rules}
-use Rattle.laws.proofs.Rounds.{tested-none, tested-next, tested-all}
+use Rattle.laws.proofs.Rounds.{tested-none, tested-next}
 use Rattle.rules.specs.Sizes.{max_guests}
 use Rattle.sound_places.proofs.guests.guests_good.Goals as goal
 

@@ -1,6 +1,6 @@
 use native.Mathlib.Omega.{arith}
 use mathlib.Core.Path.{refl}
-use Rattle.laws.proofs.Rounds.{tested-none, tested-next, tested-all}
+use Rattle.laws.proofs.Rounds.{tested-none, tested-next}
 use Rattle.sound_places.proofs.shares.all_kept.Goals as goal
 
 pub loop-g-preserved : goal.loop-g-preserved
