@@ -1,4 +1,4 @@
-// ATTACH and DETACH, on lent arrays of the state and the table's words.
+// ATTACH and DETACH, on the device's state and the table's words.
 #![tactic(auto)]
 
 mod attach;
