@@ -1,81 +1,57 @@
-// UNMAP, on lent arrays of the state and the table's words.
+// UNMAP, on the state and the table's words.
 #![tactic(auto)]
 
 ghost use Rattle.std.specs.Prelude.{◌≡◌};
-ghost use Rattle.rules.specs.Handlers.{status_of, unmap_chain};
-ghost use Rattle.rules.specs.declared.State.{State};
-ghost use Rattle.state_fields.specs.Fields.{with_domains};
+ghost use Rattle.rules.specs.Failures.{outcome_status};
 ghost use Rattle.refinement.specs.Flat.{device, with_status, unmap_status};
 ghost use Rattle.refinement.specs.Flat as flat;
 
-use refinement::HandlerResult;
-use rules::requests::{INVAL, NOENT, OK, RANGE};
-use rules::sizes::MAX_ENDPOINTS;
-use rules::{Domain, Guest};
+use rules::requests::Failure;
+use rules::{Domain, Guest, State};
 use table_record::key_of;
 
-// The status of UNMAP, by what its steps' tests give.
-fn first_unmap(missing: bool, reserved: bool, order: bool, cut: bool) -> u8
-    ensures { result ≡ status_of (unmap_chain missing reserved order cut) }
-{
-    if missing {
-        return NOENT;
-    }
-    if reserved {
-        return INVAL;
-    }
-    if order {
-        return RANGE;
-    }
-    if cut {
-        return RANGE;
-    }
-    OK
-}
-
-// The status of UNMAP for a guest, a domain and the addresses from a to b.
-fn unmap_status<'a>(
-    live: usize,
-    owners: &'a [u8; MAX_ENDPOINTS],
-    attached: &'a [u8; MAX_ENDPOINTS],
-    domains: &'a [u32; MAX_ENDPOINTS],
-    t: &'a [u64],
+// Refuses an UNMAP for a guest, a domain and the addresses from a to b that fails one of its steps, with the status of the
+// first that fails.
+fn check_unmap(
+    s: &State,
+    t: &[u64],
     g: Guest,
     d: Domain,
     a: u64,
     b: u64,
     reserved: u64,
-) -> u8
-    ensures { (s : State) → result ≡ unmap_status (device (with_domains owners.now attached.now domains.now live s) t.now) g d a b reserved }
+) -> Result<(), Failure>
+    ensures { outcome_status result ≡ unmap_status (device s.now t.now) g d a b reserved }
 {
-    let exists = state_endpoints::domain_exists(owners, attached, domains, g, d);
-    let cut = table_overlap::straddled(t, live, key_of(g, d), a, b);
-    first_unmap(!exists, reserved != 0, b < a, cut)
+    if !state_endpoints::domain_exists(&s.owners, &s.attached, &s.domains, g, d) {
+        return Err(Failure::Noent);
+    }
+    if reserved != 0 {
+        return Err(Failure::Inval);
+    }
+    if b < a {
+        return Err(Failure::Range);
+    }
+    if table_overlap::straddled(t, s.live, key_of(g, d), a, b) {
+        return Err(Failure::Range);
+    }
+    Ok(())
 }
 
 // UNMAP for a guest: the domain's records inside the addresses from a to b go where every step passes.
-pub fn handle_unmap<'a>(
-    live: usize,
-    owners: &'a [u8; MAX_ENDPOINTS],
-    attached: &'a [u8; MAX_ENDPOINTS],
-    domains: &'a [u32; MAX_ENDPOINTS],
-    t: &'a mut [u64],
+pub fn handle_unmap(
+    s: &mut State,
+    t: &mut [u64],
     g: Guest,
     d: Domain,
     a: u64,
     b: u64,
     reserved: u64,
-) -> HandlerResult
-    ensures { (s : State) → with_status result.status (device (with_domains owners.now attached.now domains.now result.live s) t.new) ≡ flat.handle_unmap (device (with_domains owners.now attached.now domains.now live s) t.old) g d a b reserved }
+) -> Result<(), Failure>
+    ensures { with_status (outcome_status result) (device s.new t.new) ≡ flat.handle_unmap (device s.old t.old) g d a b reserved }
 {
-    let status = unmap_status(live, owners, attached, domains, t, g, d, a, b, reserved);
-    if status != OK {
-        return HandlerResult { status, live };
-    }
+    check_unmap(s, t, g, d, a, b, reserved)?;
     let key = key_of(g, d);
-    let kept = table_remove::remove(t, live, key, key, a, b);
-    HandlerResult {
-        status: OK,
-        live: kept,
-    }
+    s.live = table_remove::remove(t, s.live, key, key, a, b);
+    Ok(())
 }

@@ -1,6 +1,5 @@
 // A guest's limits.
-ghost use Rattle.std.specs.Prelude.{◌≡◌, ◌<◌};
-ghost use Rattle.rules.specs.Sizes.{max_guests};
+ghost use Rattle.std.specs.Prelude.{◌≡◌};
 ghost use Rattle.map_steps.specs.Forms.{limits_at};
 
 use rules::{InputRange, Settings};
@@ -14,15 +13,14 @@ pub struct Limits {
     pub last: u64,
 }
 
-// The limits of the guest with number g.
+// The limits of the guest with number g, whose window's ends are 0 where there is no place for one.
 pub fn limits_at(settings: &Settings, g: usize) -> Limits
-    requires { g < max_guests }
     ensures { result ≡ limits_at settings.now g }
 {
     Limits {
         mask: settings.mask,
         input: settings.input,
-        first: settings.firsts[g],
-        last: settings.lasts[g],
+        first: settings.firsts.get(g).copied().unwrap_or(0),
+        last: settings.lasts.get(g).copied().unwrap_or(0),
     }
 }

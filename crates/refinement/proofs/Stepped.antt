@@ -42,7 +42,7 @@ use Rattle.rules.proofs.Unchanged.{replace-same, kept-is, written, still}
 use Rattle.refinement.proofs.Requested.{attach-written, detach-written, map-written, unmap-written, probe-status, probe-bytes, reset-written}
 
 -- what f gives for a request, and z for a refused one
-abbrev taken : {A : Type 0} → (Request → A) → A → Result Request Refusal → A
+abbrev pub taken : {A : Type 0} → (Request → A) → A → Result Request Refusal → A
 taken f z (Ok q) = f q
 taken f z (Err a) = z
 
