@@ -6,17 +6,17 @@ use mathlib.Core.List.{List, [], ◌∷◌}
 use mathlib.Core.Option.{Option, some}
 use native.Mathlib.Omega.{arith}
 use lib.Dec.{leb, ltb, eqb}
-use lib.ListN.{length, get_or, take}
-use borrow.Author.Tests.{lt-ltb, le-leb, leb-true, eqb-true, eq-eqb}
+use lib.ListN.{length, take}
+use borrow.Author.Tests.{lt-ltb, le-leb, leb-true, eq-eqb}
 use Rattle.laws.specs.Lists.{all?, every?, first_failing}
-use Rattle.laws.proofs.Tests.{both, both_left, both_right, true-false, same_test, opened, cleared}
+use Rattle.laws.proofs.Tests.{both, both_left, both_right, true-false, same_test, cleared}
 use Rattle.laws.proofs.Filters.{all-imp}
 use Rattle.laws.proofs.Tables.{below_at, below_all}
 use Rattle.laws.proofs.Owners.{owner-among}
 use Rattle.rules.specs.declared.Settings.{Settings}
 use Rattle.rules.specs.declared.Mapping.{Mapping}
 use Rattle.rules.specs.Sizes.{max_guests, max_endpoints, endpoint_region_words, max_records, record_words, table_words}
-use Rattle.rules.specs.Configuration.{share, list_tests, good_settings, good_lists, good_regions, good}
+use Rattle.rules.specs.Configuration.{share, good_settings, good_lists, good_regions, good}
 use Rattle.rules.specs.Table.{records, guest_of, domain_of}
 use Rattle.rules.specs.State.{Device, config_of, read}
 use Rattle.rules.specs.Guests.{own, part, records_of}
@@ -29,13 +29,12 @@ use Rattle.rules.proofs.Groups.{Good, good-facts, Framed, frame-facts, frame-tes
 use Rattle.rules.proofs.Parts.{passes_none, form-wide}
 use Rattle.table_record.specs.Records.{no_mapping}
 use Rattle.table_search.proofs.Ordered.{InOrder}
-use Rattle.map_steps.specs.Forms.{limits, form_good}
+use Rattle.map_steps.specs.Forms.{limits_of, limits_at, form_good}
 use Rattle.sound_records.specs.Scan.{own_good, domain_good, scan, room_tests}
 use Rattle.sound_records.proofs.Room.{room-tests}
 use Rattle.sound_records.proofs.Order.{Scanned, from-scan, to-scan}
 use Rattle.sound_regions.specs.Clear.{regions_good}
 use Rattle.sound_regions.proofs.Cleared.{reserved-are}
-use Rattle.sound.specs.Assembled.{frame_alone, framed}
 
 -- what does not hold where a test fails that it implies
 unless : (a b : Bool) → (b ≡ true → a ≡ true) → a ≡ false → b ≡ false
@@ -45,52 +44,6 @@ unless a false f h = refl
 -- what a test says whose first part is known to pass
 pub granted : {r : Bool} (a b v : Bool) → a ≡ true → r ≡ (a && b) → r ≡ v → b ≡ v
 granted a b v h e k = sym (e ∙ ap (λ (x : Bool). x && b) h) ∙ k
-
--- THE FRAME, TEST BY TEST
-
--- good lists of as many endpoints as are listed
-pub few : (s : Settings) (n : ℕ) (es os : List ℕ) → eqb (length (take n es)) n ≡ true → good_lists s (take n es) (take n os) ≡ true → n ≤ max_endpoints
-unfolding good_lists
-few s n es os e h = omega (arith, eqb-true (length (take n es)) n e, leb-true (length (take n es)) max_endpoints (opened (list_tests s (take n es) (take n os)) h).1.0)
-
-module _ (s : Settings) (n m : ℕ) (es os rs ws : List ℕ) where
-  facts : framed s n m es os rs ws ≡ true → Framed (frame_alone s n m es os rs ws)
-  unfolding framed
-  facts h = frame-facts (frame_alone s n m es os rs ws) h
-
-  pub words-missing : eqb (length ws) table_words ≡ false → framed s n m es os rs ws ≡ false
-  words-missing = unless (eqb (length ws) table_words) (framed s n m es os rs ws) (λ h. eq-eqb _ _ (facts h).words)
-
-  pub live-past : leb m max_records ≡ false → framed s n m es os rs ws ≡ false
-  live-past = unless (leb m max_records) (framed s n m es os rs ws) (λ h. le-leb _ _ (facts h).live)
-
-  pub endpoints-missing : eqb (length (take n es)) n ≡ false → framed s n m es os rs ws ≡ false
-  unfolding config_of
-  endpoints-missing = unless (eqb (length (take n es)) n) (framed s n m es os rs ws) (λ h. eq-eqb _ _ (facts h).listed)
-
-  -- the lists and the regions of the configuration
-  abbrev lists : Bool
-  lists = good_lists s (take n es) (take n os)
-
-  abbrev regions : ℕ → Bool
-  regions k = good_regions k (take (endpoint_region_words * n) rs)
-
-  pub settings-bad : good_settings s ≡ false → framed s n m es os rs ws ≡ false
-  unfolding config_of good
-  settings-bad = unless (good_settings s) (framed s n m es os rs ws) (λ h. both_left (good_settings s) (lists && regions (length (take n es))) (facts h).config)
-
-  pub lists-bad : lists ≡ false → framed s n m es os rs ws ≡ false
-  unfolding config_of good
-  lists-bad = unless lists (framed s n m es os rs ws) (λ h. both_left lists _ (both_right (good_settings s) (lists && regions (length (take n es))) (facts h).config))
-
-  pub regions-decide : length ws ≡ table_words → m ≤ max_records → eqb (length (take n es)) n ≡ true → good_settings s ≡ true → lists ≡ true → regions n ≡ framed s n m es os rs ws
-  unfolding framed config_of good
-  regions-decide w l e g k =
-      same_test (regions n) (framed s n m es os rs ws)
-      (λ h.
-      frame-tests (frame_alone s n m es os rs ws)
-      (record { words = w; config = both (good_settings s) _ g (both lists _ k (rw (eqb-true (length (take n es)) n e) h)); listed = eqb-true _ _ e; live = l }))
-      (λ h. rw (eqb-true (length (take n es)) n e) at (both_right lists (regions (length (take n es))) (both_right (good_settings s) (lists && regions (length (take n es))) (facts h).config)))
 
 -- WHAT THE FRAME GRANTS TO THE TESTS AFTER IT
 
@@ -115,6 +68,48 @@ module _ (d : Device) (f : Framed d) where
         endpoints = leb-true _ _ endpoints-fit;
         records = omega (arith, length-records d.table, f.live, f.words);
       })
+
+-- THE FRAME, TEST BY TEST
+
+module _ (d : Device) where
+  abbrev framed : Bool
+  framed = every? (frame_tests d)
+
+  abbrev n : ℕ
+  n = d.state.listed
+
+  pub words-missing : eqb (length d.table) table_words ≡ false → framed ≡ false
+  words-missing = unless (eqb (length d.table) table_words) framed (λ h. eq-eqb _ _ (frame-facts d h).words)
+
+  pub live-past : leb d.state.live max_records ≡ false → framed ≡ false
+  live-past = unless (leb d.state.live max_records) framed (λ h. le-leb _ _ (frame-facts d h).live)
+
+  pub endpoints-past : leb n max_endpoints ≡ false → framed ≡ false
+  endpoints-past = unless (leb n max_endpoints) framed (λ h. endpoints-fit d (frame-facts d h))
+
+  -- the lists and the regions of the configuration
+  abbrev lists : Bool
+  lists = good_lists d.state.settings (take n d.state.endpoints) (take n d.state.owners)
+
+  abbrev regions : ℕ → Bool
+  regions k = good_regions k (take (endpoint_region_words * n) d.state.regions)
+
+  pub settings-bad : good_settings d.state.settings ≡ false → framed ≡ false
+  unfolding config_of good
+  settings-bad = unless (good_settings d.state.settings) framed (λ h. both_left (good_settings d.state.settings) (lists && regions (length (take n d.state.endpoints))) (frame-facts d h).config)
+
+  pub lists-bad : lists ≡ false → framed ≡ false
+  unfolding config_of good
+  lists-bad = unless lists framed (λ h. both_left lists _ (both_right (good_settings d.state.settings) (lists && regions (length (take n d.state.endpoints))) (frame-facts d h).config))
+
+  pub regions-decide : length d.table ≡ table_words → d.state.live ≤ max_records → length (take n d.state.endpoints) ≡ n → good_settings d.state.settings ≡ true → lists ≡ true → regions n ≡ framed
+  unfolding config_of good
+  regions-decide w l e g k =
+      same_test (regions n) framed
+      (λ h.
+      frame-tests d
+      (record { words = w; config = both (good_settings d.state.settings) _ g (both lists _ k (rw e h)); listed = e; live = l }))
+      (λ h. rw e at (both_right lists (regions (length (take n d.state.endpoints))) (both_right (good_settings d.state.settings) (lists && regions (length (take n d.state.endpoints))) (frame-facts d h).config)))
 
 -- A GROUP THAT FAILS
 
@@ -141,8 +136,8 @@ steps false m = refl
 filled : (s : Settings) (r : Mapping) → own_good s r ≡ true → wide r ≡ true
 unfolding own_good form_good
 filled s r h =
-    form-wide (limits s.mask s.input (get_or s.firsts (guest_of r) 0) (get_or s.lasts (guest_of r) 0)) r
-    (cleared (form_steps (limits s.mask s.input (get_or s.firsts (guest_of r) 0) (get_or s.lasts (guest_of r) 0)) r) (passes_none _ (both_right (ltb (guest_of r) s.guests) _ h)))
+    let o = limits_of (limits_at s (guest_of r)) in
+    form-wide o r (cleared (form_steps o r) (passes_none _ (both_right (ltb (guest_of r) s.guests) _ h)))
 
 keyed : (n : ℕ) (owners attached domains : List ℕ) (r s : Mapping) → r.key ≡ s.key → domain_good n owners attached domains r ≡ true → domain_good n owners attached domains s ≡ true
 unfolding domain_good
@@ -229,7 +224,7 @@ module _ (d : Device) (f : Framed d) where
 
   -- where the other tests pass, those of the reserved regions decide
   pub decided : Placed d.state → Logged d.state → zero_from (record_words * d.state.live) d.table ≡ true → records-pass ≡ true
-      → regions_good d.state.listed d.state.live d.state.owners d.state.attached d.state.domains d.state.regions d.table ≡ sound d
+      → regions_good d.state d.table ≡ sound d
   decided p l z h =
       reserved-are d f p (ordered z h)
       ∙ same_test (every? (reserved_tests d)) (sound d)

@@ -3,161 +3,85 @@
 
 mod checking;
 
-ghost use Rattle.std.specs.Prelude.{◌≡◌, ℕ, ◌*◌, ◌≤◌, eqb, length, take};
-ghost use Rattle.rules.specs.Sizes.{max_endpoints, endpoint_region_words, region_places};
-ghost use Rattle.rules.specs.Configuration.{window_last, good_regions};
-ghost use Rattle.rules.specs.Sound.{sound};
+ghost use Rattle.std.specs.Prelude.{◌≡◌, ℕ, ◌≤◌, true, length};
+ghost use Rattle.laws.specs.Lists.{every?};
+ghost use Rattle.rules.specs.Sizes.{max_guests};
+ghost use Rattle.rules.specs.Configuration.{window_last, good_settings};
+ghost use Rattle.rules.specs.Sound.{frame_tests, sound};
 ghost use Rattle.rules.specs.State.{Lengths};
-ghost use Rattle.state_fields.specs.Assembled.{state_with};
-ghost use Rattle.sound.specs.Assembled.{framed, device_with};
+ghost use Rattle.sound.specs.Assembled.{device_of};
 
-pub use checking::{Checked, check_job};
+pub use checking::check_job;
 use config_endpoints::good_lists;
 use config_regions::good_regions;
 use config_settings::good_settings;
-use rules::Settings;
-use rules::sizes::{
-    ENDPOINT_REGION_WORDS, FAULT_PLACES, MAX_ENDPOINTS, MAX_GUESTS, MAX_RECORDS, RECORD_WORDS,
-    REGION_PLACES, TABLE_WORDS,
-};
+use rules::sizes::{ENDPOINT_REGION_WORDS, MAX_ENDPOINTS, MAX_RECORDS, RECORD_WORDS, TABLE_WORDS};
+use rules::{Settings, State};
 use sound_logs::faults_good;
 use sound_places::places_good;
 use sound_records::records_good;
 use sound_regions::regions_good;
 use sound_zeros::zero_from;
 
-// Whether the array has room for n endpoints.
-fn has_places(endpoints: &[u32], n: usize) -> bool
-    ensures { result ≡ eqb (length (take n endpoints.now)) n }
+// Whether the settings are good; and, for whoever calls, what the types of their arrays fix.
+fn settings_good(settings: Settings) -> bool
+    ensures value { result ≡ good_settings settings }
+    ensures lengths { (length settings.shares ≡ max_guests) × (length settings.firsts ≡ max_guests) × (length settings.lasts ≡ max_guests) }
+    ensures by_index { (i : ℕ) → window_last settings i ≤ 18446744073709551615 }
 {
-    n <= endpoints.len()
+    good_settings(settings)
 }
 
-// Whether the regions of the first n endpoints are good, in the words for as many.
-fn regions_formed(n: usize, regions: &[u64]) -> bool
-    requires { (n ≤ max_endpoints) × (length regions.now ≡ region_places) }
-    ensures { result ≡ good_regions n (take (endpoint_region_words * n) regions.now) }
-{
-    let end = ENDPOINT_REGION_WORDS * n;
-    good_regions(n, &regions[..end])
-}
-
-// Whether the table has its length, the records and the endpoints have places, and the configuration is good.
-fn frame_good<'a>(
-    settings: Settings,
-    listed: usize,
-    live: usize,
-    endpoints: &'a [u32; MAX_ENDPOINTS],
-    owners: &'a [u8; MAX_ENDPOINTS],
-    regions: &'a [u64; REGION_PLACES],
-    t: &'a [u64],
-) -> bool
-    ensures { result ≡ framed settings listed live endpoints.now owners.now regions.now t.now }
+// Whether the table has its length, the records and the endpoints have places, and lists and regions are good, where the settings
+// are known to be.
+fn frame_good(s: &State, t: &[u64]) -> bool
+    requires { good_settings s.now.settings ≡ true }
+    ensures { result ≡ every? (frame_tests (device_of s.now t.now)) }
 {
     if t.len() != TABLE_WORDS {
         return false;
     }
-    if live > MAX_RECORDS {
+    if s.live > MAX_RECORDS {
         return false;
     }
-    if !has_places(endpoints, listed) {
+    if s.listed > MAX_ENDPOINTS {
         return false;
     }
-    if !good_settings(settings) {
+    if !good_lists(s.settings, s.listed, &s.endpoints, &s.owners) {
         return false;
     }
-    if !good_lists(settings, listed, endpoints, owners) {
-        return false;
-    }
-    regions_formed(listed, regions)
+    let end = ENDPOINT_REGION_WORDS * s.listed;
+    good_regions(s.listed, &s.regions[..end])
 }
 
-// Whether every test of soundness passes, of the state that these pieces make up and of the table.
-fn tests_pass<'a>(
-    settings: Settings,
-    listed: usize,
-    live: usize,
-    endpoints: &'a [u32; MAX_ENDPOINTS],
-    owners: &'a [u8; MAX_ENDPOINTS],
-    attached: &'a [u8; MAX_ENDPOINTS],
-    domains: &'a [u32; MAX_ENDPOINTS],
-    regions: &'a [u64; REGION_PLACES],
-    logged: &'a [usize; MAX_GUESTS],
-    lost: &'a [u32; MAX_GUESTS],
-    reasons: &'a [u8; FAULT_PLACES],
-    flags: &'a [u32; FAULT_PLACES],
-    sources: &'a [u32; FAULT_PLACES],
-    addresses: &'a [u64; FAULT_PLACES],
-    t: &'a [u64],
-) -> bool
-    ensures { result ≡ sound (device_with settings listed live endpoints.now owners.now attached.now domains.now regions.now logged.now lost.now reasons.now flags.now sources.now addresses.now t.now) }
+// Whether every test of soundness passes, where the settings are known to be good.
+fn tests_pass(s: &State, t: &[u64]) -> bool
+    requires { good_settings s.now.settings ≡ true }
+    ensures { result ≡ sound (device_of s.now t.now) }
 {
-    if !frame_good(settings, listed, live, endpoints, owners, regions, t) {
+    if !frame_good(s, t) {
         return false;
     }
-    if !places_good(
-        settings, listed, endpoints, owners, attached, domains, logged, lost,
-    ) {
+    if !places_good(s) {
         return false;
     }
-    if !faults_good(
-        listed, endpoints, owners, logged, reasons, flags, sources, addresses,
-    ) {
+    if !faults_good(s) {
         return false;
     }
-    if !zero_from(t, RECORD_WORDS * live) {
+    if !zero_from(t, RECORD_WORDS * s.live) {
         return false;
     }
-    if !records_good(settings, listed, live, owners, attached, domains, t) {
+    if !records_good(s, t) {
         return false;
     }
-    regions_good(listed, live, owners, attached, domains, regions, t)
+    regions_good(s, t)
 }
 
-// Nothing: an array that is lent here as a slice shows its length to the proof of the function that lends it.
-fn show_lengths<'a>(
-    endpoints: &'a [u32],
-    owners: &'a [u8],
-    attached: &'a [u8],
-    domains: &'a [u32],
-    regions: &'a [u64],
-    logged: &'a [usize],
-    lost: &'a [u32],
-    reasons: &'a [u8],
-    flags: &'a [u32],
-    sources: &'a [u32],
-    addresses: &'a [u64],
-) {}
-
-// Whether the state that these pieces make up, and the table, are sound; and, for whoever calls, what the types of the state's
-// arrays and of the window ends fix.
-pub fn is_sound<'a>(
-    settings: Settings,
-    listed: usize,
-    live: usize,
-    endpoints: &'a [u32; MAX_ENDPOINTS],
-    owners: &'a [u8; MAX_ENDPOINTS],
-    attached: &'a [u8; MAX_ENDPOINTS],
-    domains: &'a [u32; MAX_ENDPOINTS],
-    regions: &'a [u64; REGION_PLACES],
-    logged: &'a [usize; MAX_GUESTS],
-    lost: &'a [u32; MAX_GUESTS],
-    reasons: &'a [u8; FAULT_PLACES],
-    flags: &'a [u32; FAULT_PLACES],
-    sources: &'a [u32; FAULT_PLACES],
-    addresses: &'a [u64; FAULT_PLACES],
-    t: &'a [u64],
-) -> bool
-    ensures value { result ≡ sound (device_with settings listed live endpoints.now owners.now attached.now domains.now regions.now logged.now lost.now reasons.now flags.now sources.now addresses.now t.now) }
-    ensures lengths { Lengths (state_with settings listed live endpoints.now owners.now attached.now domains.now regions.now logged.now lost.now reasons.now flags.now sources.now addresses.now) }
-    ensures by_index { (i : ℕ) → window_last settings i ≤ 18446744073709551615 }
+// Whether state and table are sound; and, for whoever calls, what the types of the state's arrays and of the window ends fix.
+pub fn is_sound(s: &State, t: &[u64]) -> bool
+    ensures value { result ≡ sound (device_of s.now t.now) }
+    ensures lengths { Lengths s.now }
+    ensures by_index { (i : ℕ) → window_last s.now.settings i ≤ 18446744073709551615 }
 {
-    show_lengths(
-        endpoints, owners, attached, domains, regions, logged, lost, reasons, flags, sources,
-        addresses,
-    );
-    tests_pass(
-        settings, listed, live, endpoints, owners, attached, domains, regions, logged, lost,
-        reasons, flags, sources, addresses, t,
-    )
+    settings_good(s.settings) && tests_pass(s, t)
 }

@@ -11,10 +11,11 @@ use Rattle.laws.specs.Lists.{every?, below, pick_by, tab}
 use Rattle.laws.proofs.Rounds.{below-same, below-append, below-grid}
 use Rattle.rules.specs.declared.Fault.{Fault}
 use Rattle.rules.specs.Sizes.{max_guests, max_endpoints, max_faults, fault_places}
-use Rattle.rules.specs.State.{config_of}
+use Rattle.rules.specs.declared.State.{State}
+use Rattle.rules.specs.State.{config_of, fault_at}
 use Rattle.rules.specs.Guests.{own}
 use Rattle.rules.specs.Sound.{fault_good, fault_zero, fault_place_good, log_tests}
-use Rattle.sound_logs.specs.Faults.{faults_alone, endpoints_alone, fault_in, place_good, owner_among}
+use Rattle.sound_logs.specs.Faults.{endpoints_alone, place_good, owner_among}
 use Rattle.sound_logs.proofs.Listed.{pick-listed}
 
 -- those in use come first, then those that are zero
@@ -30,19 +31,18 @@ log-split first count es f =
     below-same (max_faults - h) (λ j. q (h + j)) _ (λ j k. rw (le-ltb (h + j) count (omega arith), ← add_assoc first h j)) in
     sym (ap (λ (n : ℕ). below n q) (sym all) ∙ below-append h (max_faults - h) q ∙ rw (used, free))
 
-module _ (n : ℕ) (listed : n ≤ max_endpoints) (endpoints owners logged reasons flags sources addresses : List ℕ) (e : length owners ≡ max_endpoints) where
+module _ (s : State) (listed : s.listed ≤ max_endpoints) (e : length s.owners ≡ max_endpoints) where
   -- guest by guest, and place by place
-  pub logs-good : below max_guests (λ g. below max_faults (λ j. place_good (get_or logged g 0) (pick_by g (tab max_endpoints (owner_among n owners)) endpoints) j (fault_in reasons flags sources addresses (max_faults * g + j))))
-      ≡ every? (log_tests (faults_alone n endpoints owners logged reasons flags sources addresses))
+  pub logs-good : below max_guests (λ g. below max_faults (λ j. place_good (get_or s.logged g 0) (pick_by g (tab max_endpoints (owner_among s.listed s.owners)) s.endpoints) j (fault_at s (max_faults * g + j))))
+      ≡ every? (log_tests s)
   unfolding fault_place_good fault_good config_of own
   logs-good =
-      let s = faults_alone n endpoints owners logged reasons flags sources addresses in
       below-same max_guests _ (λ g. below max_faults (λ j. fault_place_good (config_of s) s (max_faults * g + j)))
       (λ g h.
       below-same max_faults _ _
       (λ j k.
       let row : (max_faults * g + j) / max_faults ≡ g = omega arith in
       let place : (max_faults * g + j) % max_faults ≡ j = omega arith in
-      rw (row, place, pick-listed g h n listed owners endpoints e)))
+      rw (row, place, pick-listed g h s.listed listed s.owners s.endpoints e)))
       ∙ below-grid max_faults max_guests (fault_place_good (config_of s) s)
       ∙ sym (and-true (below fault_places (fault_place_good (config_of s) s)))

@@ -1,17 +1,9 @@
 -- What the test of the fault logs looks at.
 use Rattle.std.specs.Prelude.{ℕ, Bool, cond, List, [], ltb, get_or}
 use Rattle.rules.specs.Sizes.{max_guests}
-use Rattle.rules.specs.declared.State.{State}
 use Rattle.rules.specs.declared.Fault.{Fault}
-use Rattle.rules.specs.State.{zero_state}
 use Rattle.rules.specs.Guests.{Own}
 use Rattle.rules.specs.Sound.{guest, fault_good, fault_zero}
-use Rattle.state_fields.specs.Assembled.{state_with}
-
--- a state of endpoints and faults alone: what the test of the fault places looks at
-abbrev pub faults_alone : ℕ → List ℕ → List ℕ → List ℕ → List ℕ → List ℕ → List ℕ → List ℕ → State
-faults_alone listed endpoints owners logged reasons flags sources addresses =
-    state_with zero_state.settings listed 0 endpoints owners [] [] [] logged [] reasons flags sources addresses
 
 -- a guest's endpoints alone: what the test of a fault looks at
 abbrev pub endpoints_alone : List ℕ → Own
@@ -27,11 +19,6 @@ endpoints_alone es =
       endpoints = es;
       regions = [];
     }
-
--- the fault at place i
-abbrev pub fault_in : List ℕ → List ℕ → List ℕ → List ℕ → ℕ → Fault
-fault_in reasons flags sources addresses i =
-    record { reason = get_or reasons i 0; flags = get_or flags i 0; endpoint = record { 0 = get_or sources i 0 }; address = get_or addresses i 0 }
 
 -- place j of a guest's log, of which so many are in use, with the fault f; es are the guest's endpoints
 abbrev pub place_good : ℕ → List ℕ → ℕ → Fault → Bool

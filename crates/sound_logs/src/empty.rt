@@ -2,49 +2,36 @@
 ghost use Rattle.std.specs.Prelude.{◌≡◌, ◌+◌, ◌≤◌, eqb, get_or};
 ghost use Rattle.laws.specs.Lists.{below};
 ghost use Rattle.rules.specs.Sizes.{max_guests, fault_places};
+ghost use Rattle.rules.specs.State.{fault_at};
 ghost use Rattle.rules.specs.Sound.{fault_zero};
-ghost use Rattle.sound_logs.specs.Faults.{fault_in};
 
-use rules::sizes::{FAULT_PLACES, MAX_GUESTS};
+use rules::State;
+use rules::sizes::MAX_GUESTS;
 
 // Whether no log has a fault.
-pub(crate) fn none_logged(logged: &[usize; MAX_GUESTS]) -> bool
-    ensures { result ≡ below max_guests (λ g. eqb (get_or logged.now g 0) 0) }
+pub(crate) fn none_logged(s: &State) -> bool
+    ensures { result ≡ below max_guests (λ g. eqb (get_or s.now.logged g 0) 0) }
 {
     let mut ok = true;
+    // By place: the test that is proved goes by the guest's number.
     for g in 0..MAX_GUESTS {
-        let count = logged[g];
-        ok = (count == 0) & ok;
+        ok = (s.logged[g] == 0) & ok;
     }
     ok
 }
 
-// A number at the wider type.
-fn wide(x: u8) -> u32
-    ensures { result ≡ x }
-{
-    x as u32
-}
-
 // Whether the n places for faults from place `first` on are zero.
-pub(crate) fn zero_places<'a>(
-    first: usize,
-    n: usize,
-    reasons: &'a [u8; FAULT_PLACES],
-    flags: &'a [u32; FAULT_PLACES],
-    sources: &'a [u32; FAULT_PLACES],
-    addresses: &'a [u64; FAULT_PLACES],
-) -> bool
+pub(crate) fn zero_places(s: &State, first: usize, n: usize) -> bool
     requires { first + n ≤ fault_places }
-    ensures { result ≡ below n (λ j. fault_zero (fault_in reasons.now flags.now sources.now addresses.now (first + j))) }
+    ensures { result ≡ below n (λ j. fault_zero (fault_at s.now (first + j))) }
 {
     let mut narrow: u32 = 0;
     let mut broad: u64 = 0;
+    // By place: four arrays of the state are walked side by side.
     for j in 0..n {
         let i = first + j;
-        let reason = wide(reasons[i]);
-        narrow = (reason | (flags[i] | sources[i])) | narrow;
-        broad = addresses[i] | broad;
+        narrow = (u32::from(s.reasons[i]) | (s.flags[i] | s.sources[i])) | narrow;
+        broad = s.addresses[i] | broad;
     }
     (narrow == 0) & (broad == 0)
 }

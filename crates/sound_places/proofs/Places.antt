@@ -100,7 +100,7 @@ module _ (s : State) (a : Arrays s) (few : s.settings.guests ≤ max_guests) (fi
   guests = guest_place s.settings s.logged s.lost
 
   abbrev endpoints : ℕ → Bool
-  endpoints = endpoint_place s.settings.domains m s.endpoints s.owners s.attached s.domains
+  endpoints = endpoint_place s
 
   -- FROM THE PLACES TO THE TESTS
 

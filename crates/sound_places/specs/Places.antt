@@ -9,8 +9,8 @@ use Rattle.rules.specs.declared.Settings.{Settings}
 use Rattle.rules.specs.declared.DomainRange.{DomainRange}
 use Rattle.rules.specs.declared.State.{State}
 use Rattle.rules.specs.Configuration.{Config, share, window_first, window_last}
+use Rattle.rules.specs.State.{domain_at}
 use Rattle.rules.specs.Sound.{attachment_good}
-use Rattle.state_fields.specs.Assembled.{state_with}
 
 -- a guest's numbers: in use, with log count and lost count within their limits, or zero
 unfoldable pub guest_good : Bool → ℕ → ℕ → ℕ → ℕ → ℕ → Bool
@@ -36,11 +36,6 @@ unfoldable pub endpoint_good : DomainRange → Bool → Endpoint → Guest → �
 endpoint_good range used e owner flag d =
     (used && attachment_good (range_alone range) flag d) || (not used && every? (eqb e.0 0 ∷ eqb owner.0 0 ∷ eqb flag 0 ∷ eqb d.0 0 ∷ []))
 
-abbrev pub endpoint_place : DomainRange → ℕ → List ℕ → List ℕ → List ℕ → List ℕ → ℕ → Bool
-endpoint_place range n endpoints owners attached domains i =
-    endpoint_good range (ltb i n) (record { 0 = get_or endpoints i 0 }) (record { 0 = get_or owners i 0 }) (get_or attached i 0) (record { 0 = get_or domains i 0 })
-
--- a state of these places alone: what soundness' tests of the places look at
-abbrev pub places_alone : Settings → ℕ → List ℕ → List ℕ → List ℕ → List ℕ → List ℕ → List ℕ → State
-places_alone settings listed endpoints owners attached domains logged lost =
-    state_with settings listed 0 endpoints owners attached domains [] logged lost [] [] [] []
+abbrev pub endpoint_place : State → ℕ → Bool
+endpoint_place s i =
+    endpoint_good s.settings.domains (ltb i s.listed) (record { 0 = get_or s.endpoints i 0 }) (record { 0 = get_or s.owners i 0 }) (get_or s.attached i 0) (domain_at s i)

@@ -1,12 +1,12 @@
 // The places of endpoints.
-ghost use Rattle.std.specs.Prelude.{◌≡◌, length};
+ghost use Rattle.std.specs.Prelude.{◌≡◌};
 ghost use Rattle.laws.specs.Lists.{below};
 ghost use Rattle.rules.specs.Sizes.{max_endpoints};
 ghost use Rattle.rules.specs.Sound.{attachment_good};
 ghost use Rattle.sound_places.specs.Places.{range_alone, endpoint_good, endpoint_place};
 
 use rules::sizes::MAX_ENDPOINTS;
-use rules::{Domain, DomainRange, Endpoint, Guest};
+use rules::{Domain, DomainRange, Endpoint, Guest, State};
 
 // Whether an endpoint is attached to a domain of the range, or not attached and its domain 0.
 fn attachment_good(range: DomainRange, flag: u8, d: Domain) -> bool
@@ -30,27 +30,20 @@ fn endpoint_good(
         | (!used & ((e.0 == 0) & ((owner.0 == 0) & ((flag == 0) & (d.0 == 0)))))
 }
 
-// Whether the numbers at every endpoint's place are good, where the first n are in use.
-pub(crate) fn endpoints_good<'a>(
-    range: DomainRange,
-    n: usize,
-    endpoints: &'a [u32],
-    owners: &'a [u8],
-    attached: &'a [u8],
-    domains: &'a [u32],
-) -> bool
-    requires { (length endpoints.now ≡ max_endpoints) × (length owners.now ≡ max_endpoints) × (length attached.now ≡ max_endpoints) × (length domains.now ≡ max_endpoints) }
-    ensures { result ≡ below max_endpoints (endpoint_place range n endpoints.now owners.now attached.now domains.now) }
+// Whether the numbers at every endpoint's place are good.
+pub(crate) fn endpoints_good(s: &State) -> bool
+    ensures { result ≡ below max_endpoints (endpoint_place s.now) }
 {
     let mut ok = true;
+    // By place: four arrays of the state are walked side by side.
     for i in 0..MAX_ENDPOINTS {
         ok = endpoint_good(
-            range,
-            i < n,
-            Endpoint(endpoints[i]),
-            Guest(owners[i]),
-            attached[i],
-            Domain(domains[i]),
+            s.settings.domains,
+            i < s.listed,
+            Endpoint(s.endpoints[i]),
+            Guest(s.owners[i]),
+            s.attached[i],
+            Domain(s.domains[i]),
         ) & ok;
     }
     ok

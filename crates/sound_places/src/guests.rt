@@ -15,22 +15,23 @@ fn guest_good(used: bool, share: u32, first: u64, last: u64, count: usize, lost:
         | (!used & ((share == 0) & ((first == 0) & ((last == 0) & ((count == 0) & (lost == 0))))))
 }
 
-// Whether the numbers at every guest's place are good.
-pub(crate) fn guests_good<'a>(settings: Settings, logged: &'a [usize], lost: &'a [u32]) -> bool
-    requires { (length logged.now ≡ max_guests) × (length lost.now ≡ max_guests) }
-    ensures { result ≡ below max_guests (guest_place settings logged.now lost.now) }
+// Whether the numbers at every guest's place are good; and, for whoever calls, what the types of the settings' arrays fix.
+pub(crate) fn guests_good(
+    settings: &Settings,
+    logged: &[usize; MAX_GUESTS],
+    lost: &[u32; MAX_GUESTS],
+) -> bool
+    ensures value { result ≡ below max_guests (guest_place settings.now logged.now lost.now) }
+    ensures lengths { (length settings.now.shares ≡ max_guests) × (length settings.now.firsts ≡ max_guests) × (length settings.now.lasts ≡ max_guests) }
 {
-    let guests = settings.guests;
-    let shares = settings.shares;
-    let firsts = settings.firsts;
-    let lasts = settings.lasts;
     let mut ok = true;
+    // By place: five arrays of the state are walked side by side.
     for g in 0..MAX_GUESTS {
         ok = guest_good(
-            g < guests,
-            shares[g],
-            firsts[g],
-            lasts[g],
+            g < settings.guests,
+            settings.shares[g],
+            settings.firsts[g],
+            settings.lasts[g],
             logged[g],
             lost[g],
         ) & ok;

@@ -14,6 +14,7 @@ fn all_kept(settings: Settings, counts: [usize; MAX_GUESTS]) -> bool
 {
     let shares = settings.shares;
     let mut ok = true;
+    // By place: counts and shares are walked side by side.
     for g in 0..settings.guests {
         let count = counts[g];
         let limit = shares[g];

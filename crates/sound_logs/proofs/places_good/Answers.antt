@@ -1,12 +1,7 @@
 use native.Mathlib.Omega.{arith}
 use borrow.Author.Rules.{rules}
-use Prim.Native.Nat.{◌+◌, ◌*◌, ◌-◌}
 use mathlib.Core.Path.{◌∙◌}
-use lib.ListN.{get_or}
-use Rattle.laws.specs.Lists.{below, pick_by}
-use Rattle.laws.proofs.Rounds.{Tested, tested-none, tested-next, tested-all}
-use Rattle.rules.specs.Sizes.{max_guests, max_faults}
-use Rattle.sound_logs.specs.Faults.{fault_in, place_good}
+use Rattle.laws.proofs.Rounds.{tested-none, tested-next, tested-all}
 use Rattle.sound_logs.proofs.Logs.{logs-good}
 use Rattle.sound_logs.proofs.places_good.Goals as goal
 
@@ -17,9 +12,8 @@ loop-g-preserved c =
 
 pub returns : goal.returns
 returns c =
-    let a = c.args in
     tested-all _ _ c.loop-g.ok c.loop-g.g c.loop-g.invariant (omega arith)
-    ∙ rw c.owners_among-listed.ensures (logs-good a.n (omega arith) a.endpoints.now a.owners.now a.logged.now a.reasons.now a.flags.now a.sources.now a.addresses.now (omega arith))
+    ∙ rw c.owners_among-owners.ensures (logs-good c.args.s.now (omega arith) (search rules))
 
 pub loop-g-init : goal.loop-g-init
 loop-g-init c =

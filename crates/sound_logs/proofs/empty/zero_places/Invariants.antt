@@ -1,19 +1,14 @@
 use Rattle.sound_logs.proofs.empty.zero_places.Given as goal
-use native.Mathlib.Omega.{arith}
-use borrow.Author.Rules.{rules}
 use Prim.Native.Nat.{◌+◌, ◌-◌}
-use mathlib.Core.Path.{refl}
 use mathlib.Core.Bool.{◌&&◌}
 use lib.Dec.{eqb}
-use lib.ListN.{get_or}
-use Rattle.laws.proofs.Rounds.{Tested, tested-none, tested-next, tested-all}
+use Rattle.laws.proofs.Rounds.{Tested}
 use Rattle.rules.specs.Sound.{fault_zero}
-use Rattle.sound_logs.specs.Faults.{fault_in}
-use Rattle.sound_logs.proofs.NoFaults.{zero-round}
+use Rattle.rules.specs.State.{fault_at}
 
 abbrev pub invariant-loop-j : goal.invariant-loop-j
 invariant-loop-j l =
-    Tested l.n (λ k. fault_zero (fault_in l.reasons l.flags l.sources l.addresses (l.first + k))) (eqb l.narrow 0 && eqb l.broad 0) l.j
+    Tested l.n (λ k. fault_zero (fault_at l.s (l.first + k))) (eqb l.narrow 0 && eqb l.broad 0) l.j
 
 abbrev pub decreases-loop-j : goal.decreases-loop-j
 decreases-loop-j l = l.n - l.j

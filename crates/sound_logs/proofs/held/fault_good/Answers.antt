@@ -1,4 +1,3 @@
-use borrow.Author.Rules.{rules}
 use Rattle.rules.specs.Sound.{fault_good}
 use Rattle.sound_logs.proofs.held.fault_good.Goals as goal
 

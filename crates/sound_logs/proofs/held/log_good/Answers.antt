@@ -1,26 +1,13 @@
-use native.Mathlib.Omega.{arith}
-use borrow.Author.Rules.{rules}
 use Prim.Native.Nat.{◌*◌}
 use Rattle.laws.specs.Lists.{pick_by}
 use Rattle.rules.specs.Sizes.{max_faults}
-use Rattle.sound_logs.specs.Faults.{fault_in}
+use Rattle.rules.specs.State.{fault_at}
 use Rattle.sound_logs.proofs.Logs.{log-split}
 use Rattle.sound_logs.proofs.held.log_good.Goals as goal
 
 pub returns : goal.returns
 returns c =
     let a = c.args in
-    rw (c.zero_places.ensures, c.faults_of.ensures, c.least-held.ensures)
-    (log-split (max_faults * a.g.0) a.count (pick_by a.g.0 a.owners.now a.endpoints.now) (fault_in a.reasons.now a.flags.now a.sources.now a.addresses.now))
-
-pub faults_of-requires : goal.faults_of-requires
-faults_of-requires c =
-    (omega arith, search rules, search rules)
-
-pub overflow_sub-held : goal.overflow_sub-held
-overflow_sub-held c =
-    omega arith
-
-pub zero_places-requires : goal.zero_places-requires
-zero_places-requires c =
-    omega arith
+    let s = a.s.now in
+    rw (c.zero_places.ensures, c.faults_of.ensures, c.min-held.ensures)
+    (log-split (max_faults * a.g.0) a.count (pick_by a.g.0 a.owners.now s.endpoints) (fault_at s))

@@ -1,27 +1,13 @@
 use native.Mathlib.Omega.{arith}
-use borrow.Author.Rules.{rules}
-use Prim.Native.Nat.{◌≤◌, ◌-◌}
-use mathlib.Core.Path.{◌≡◌, refl, sym, ◌∙◌}
-use mathlib.Core.Bool.{◌||◌, or-false}
+use mathlib.Core.Path.{sym, ◌∙◌}
+use mathlib.Core.Bool.{or-false}
 use lib.Dec.{eqb}
-use lib.ListN.{drop}
-use Rattle.laws.specs.Lists.{any?, pick_by}
-use Rattle.rules.specs.Sizes.{max_endpoints}
 use Rattle.rules.specs.Handlers.{listed}
-use Rattle.laws.proofs.Owned.{owned-on, owned-end}
+use Rattle.laws.proofs.Owned.{owned-end}
 use Rattle.sound_logs.proofs.named.is_listed.Goals as goal
-
-pub loop-j-preserved : goal.loop-j-preserved
-loop-j-preserved c =
-    let a = c.args in
-    (omega arith, c.loop-j.invariant.1 ∙ owned-on (eqb a.e.0) 0 a.g.0 a.owners.now a.endpoints.now c.loop-j.j c.loop-j.found (omega arith) (omega arith))
 
 pub returns : goal.returns
 unfolding listed
 returns c =
     let a = c.args in
-    sym (c.loop-j.invariant.1 ∙ rw (owned-end (eqb a.e.0) 0 a.g.0 a.owners.now a.endpoints.now c.loop-j.j (omega arith)) (or-false c.loop-j.found))
-
-pub loop-j-init : goal.loop-j-init
-loop-j-init c =
-    (omega arith, refl)
+    sym (c.loop-j.invariant.1 ∙ rw (owned-end (eqb a.e.0) 0 a.g.0 a.owners.now a.s.now.endpoints c.loop-j.j (omega arith)) (or-false c.loop-j.found))

@@ -1,5 +1,4 @@
 use native.Mathlib.Omega.{arith}
-use borrow.Author.Rules.{rules}
 use Prim.Native.Nat.{ℕ, ◌%◌}
 use mathlib.Core.Path.{◌≡◌, sym}
 use mathlib.Core.Bool.{Bool, true, ◌&&◌}
@@ -17,12 +16,8 @@ returns-then-owners-j c =
     let a = c.args in
     let j : ℕ = get_or a.hints.now (a.e.0 % 64) 0 % 32 in
     let o : Bool = eqb (get_or a.owners.now j 0) a.g.0 in
-    let e : Bool = eqb (get_or a.endpoints.now j 0) a.e.0 in
+    let e : Bool = eqb (get_or a.s.now.endpoints j 0) a.e.0 in
     let t : (o && e) ≡ true = c.if-owners-j.true in
     sym
-    (owned_at-any (eqb a.e.0) 0 a.g.0 a.owners.now a.endpoints.now j (omega arith) (omega arith) (both_left o e t)
-    (eq-eqb a.e.0 (get_or a.endpoints.now j 0) (sym (eqb-true (get_or a.endpoints.now j 0) a.e.0 (both_right o e t)))))
-
-pub returns : goal.returns
-returns c =
-    c.is_listed.ensures
+    (owned_at-any (eqb a.e.0) 0 a.g.0 a.owners.now a.s.now.endpoints j (omega arith) (omega arith) (both_left o e t)
+    (eq-eqb a.e.0 (get_or a.s.now.endpoints j 0) (sym (eqb-true (get_or a.s.now.endpoints j 0) a.e.0 (both_right o e t)))))

@@ -1,5 +1,5 @@
 use native.Mathlib.Omega.{arith}
-use Rattle.laws.proofs.Rounds.{tested-none, tested-next, tested-all}
+use Rattle.laws.proofs.Rounds.{tested-none, tested-next}
 use Rattle.rules.specs.Sizes.{max_endpoints}
 use Rattle.sound_places.proofs.endpoints.endpoints_good.Goals as goal
 
@@ -7,9 +7,6 @@ pub loop-i-preserved : goal.loop-i-preserved
 loop-i-preserved c =
     let l = c.loop-i in
     tested-next max_endpoints _ l.ok c.endpoint_good-ok.result l.i l.invariant (omega arith) c.endpoint_good-ok.ensures
-
-pub returns : goal.returns
-returns c = let l = c.loop-i in tested-all max_endpoints _ l.ok l.i l.invariant (omega arith)
 
 pub loop-i-init : goal.loop-i-init
 loop-i-init c =

@@ -5,7 +5,7 @@ use Rattle.rules.specs.Sizes.{max_endpoints}
 use Rattle.sound_places.specs.Places.{endpoint_place}
 
 abbrev pub invariant-loop-i : goal.invariant-loop-i
-invariant-loop-i l = Tested max_endpoints (endpoint_place l.range l.n l.endpoints l.owners l.attached l.domains) l.ok l.i
+invariant-loop-i l = Tested max_endpoints (endpoint_place l.s) l.ok l.i
 
 abbrev pub decreases-loop-i : goal.decreases-loop-i
 decreases-loop-i l = max_endpoints - l.i

@@ -1,5 +1,5 @@
 use native.Mathlib.Omega.{arith}
-use Rattle.laws.proofs.Rounds.{tested-none, tested-next, tested-all}
+use Rattle.laws.proofs.Rounds.{tested-none, tested-next}
 use Rattle.rules.specs.Sizes.{max_guests}
 use Rattle.sound_places.proofs.guests.guests_good.Goals as goal
 
@@ -7,9 +7,6 @@ pub loop-g-preserved : goal.loop-g-preserved
 loop-g-preserved c =
     let l = c.loop-g in
     tested-next max_guests _ l.ok c.guest_good-ok.result l.g l.invariant (omega arith) c.guest_good-ok.ensures
-
-pub returns : goal.returns
-returns c = let l = c.loop-g in tested-all max_guests _ l.ok l.g l.invariant (omega arith)
 
 pub loop-g-init : goal.loop-g-init
 loop-g-init c =

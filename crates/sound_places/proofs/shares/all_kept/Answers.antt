@@ -1,13 +1,10 @@
 use native.Mathlib.Omega.{arith}
 use mathlib.Core.Path.{refl}
-use Rattle.laws.proofs.Rounds.{tested-none, tested-next, tested-all}
+use Rattle.laws.proofs.Rounds.{tested-none, tested-next}
 use Rattle.sound_places.proofs.shares.all_kept.Goals as goal
 
 pub loop-g-preserved : goal.loop-g-preserved
 loop-g-preserved c = let l = c.loop-g in tested-next _ _ l.ok _ l.g l.invariant (omega arith) refl
-
-pub returns : goal.returns
-returns c = let l = c.loop-g in tested-all _ _ l.ok l.g l.invariant (omega arith)
 
 pub loop-g-init : goal.loop-g-init
 loop-g-init c =
