@@ -57,13 +57,6 @@ pub no-bit : (s p e : ℕ) → s < 2 ^ 64 → p < 2 ^ 64 → e < 2 ^ 64 → (eqb
 unfolding granularity count_trailing_zeros
 no-bit s p e h j k = rw (← next-aligned e (2 ^ 64) (omega arith), mod-eq_of_lt h, mod-eq_of_lt j, mod-eq_of_lt k)
 
--- the length of the addresses from a to b fits from p to l
-pub sum-within : (a b p l : ℕ) → a ≤ b → p ≤ l → leb (b - a) (l - p) ≡ leb (p + b - a) l
-sum-within a b p l h k =
-    same_test (leb (b - a) (l - p)) (leb (p + b - a) l)
-    (λ e. le-leb (p + b - a) l (omega (arith, leb-true)))
-    (λ e. le-leb (b - a) (l - p) (omega (arith, leb-true)))
-
 -- of the numbers from x to y one end lies outside those from a to b where x lies below or y above
 ends-out : (a b x y : ℕ) → x ≤ y → (ltb x a || ltb b y) ≡ (outside a b x || outside a b y)
 unfolding outside
