@@ -8,10 +8,10 @@ use native.Mathlib.Nat.{pow-suc, mod-lt, mod_self, mod-eq_of_lt, mod-add-mod, eq
 use lib.Count.{count_trailing_zeros, under}
 use lib.Dec.{leb, ltb, eqb}
 use lib.Pow.{shl_exact}
-use borrow.Author.Tests.{ltb-false, leb-true, eq-eqb, ne_eqb, le-ltb, le-leb, lt-leb}
+use borrow.Author.Tests.{ltb-false, eq-eqb, ne_eqb, le-ltb, le-leb, lt-leb}
 use Rattle.std.specs.Prelude.{Result, Ok, Err}
 use Rattle.std.specs.Result.{is_ok}
-use Rattle.laws.proofs.Tests.{or_left, or_right, or-none, not-both, not-leb, same_test}
+use Rattle.laws.proofs.Tests.{or_left, or_right, or-none, not-both, not-leb}
 use Rattle.rules.specs.Sizes.{top_address}
 use Rattle.rules.specs.declared.Mapping.{Mapping}
 use Rattle.rules.specs.declared.requests.Failure.{Failure}
