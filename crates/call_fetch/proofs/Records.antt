@@ -6,7 +6,7 @@ use mathlib.Core.List.{List, [], ◌∷◌, ◌++◌, append-nil, append_assoc}
 use native.Mathlib.Omega.{arith}
 use native.Mathlib.Numerals.{add-one}
 use lib.Dec.{leb}
-use lib.ListN.{length, get_or, drop, length-append}
+use lib.ListN.{length, drop, length-append}
 use lib.Seq.{take_at, drop-append-add, drop-drop}
 use borrow.Rule.Slice.PartMut.{mid_of, put_mid, Post-is, mid_len}
 use Rattle.laws.specs.Lists.{tab_from, tab}
@@ -19,11 +19,6 @@ use Rattle.rules.specs.State.{fault_at}
 use Rattle.rules.specs.Access.{fault_bytes, bytes_of}
 use Rattle.wire_faults.proofs.Laws.{length-fault, fault-whole}
 use Rattle.refinement.specs.Flat.{fetch_bytes}
-
--- the fault at a place of the four arrays
-abbrev pub fault_in : List ℕ → List ℕ → List ℕ → List ℕ → ℕ → Fault
-fault_in reasons flags sources addresses i =
-    record { reason = get_or reasons i 0; flags = get_or flags i 0; endpoint = record { 0 = get_or sources i 0 }; address = get_or addresses i 0 }
 
 -- the bytes of j faults, and then those that were there
 abbrev pub written : (ℕ → Fault) → ℕ → List ℕ → List ℕ

@@ -13,18 +13,12 @@ use borrow.Rule.Slice.PartMut.{mid_of, put_mid, Post-is, mid_len}
 use Rattle.laws.specs.Lists.{pad}
 use Rattle.laws.proofs.Tables.{tab-is}
 use Rattle.rules.specs.declared.Region.{Region}
-use Rattle.rules.specs.declared.Guest.{Guest}
-use Rattle.rules.specs.declared.Endpoint.{Endpoint}
-use Rattle.rules.specs.declared.State.{State}
 use Rattle.rules.specs.Configuration.{region_count}
 use Rattle.rules.specs.Sizes.{max_endpoints, max_regions}
-use Rattle.rules.specs.Requests.{OK, NOENT}
 use Rattle.wire_properties.specs.Properties.{property_put, properties_put}
 use Rattle.wire_properties.proofs.Laws.{length-property}
 use Rattle.state_regions.specs.Held.{held_count, held_regions}
 use Rattle.state_regions.proofs.Regions.{length-held}
-use Rattle.refinement.specs.Flat.{endpoint_index, owned_at, probe_bytes}
-use Rattle.call_probe.specs.Probed.{Probed}
 
 -- an endpoint has four regions at most
 pub held-few : (w : List ℕ) (i : ℕ) → held_count w i ≤ 4
@@ -89,10 +83,3 @@ pub padded-properties : (w : List ℕ) (i : ℕ) → properties_put (held_region
 padded-properties w i =
     let e : length (properties_put (held_regions w i)) ≡ 24 * held_count w i = length-properties (held_regions w i) ∙ rw (length-held w i) in
     rw (sym e) (padded (properties_put (held_regions w i)) 128 (omega (arith, e, held-few w i)))
-
--- what is given and written, by whether the endpoint at its place is the guest's
-pub probed : (s : State) (g : Guest) (e : Endpoint) (b c : List ℕ) (i st : ℕ) (owned : Bool)
-    → i ≡ endpoint_index s e → owned ≡ owned_at s g i → st ≡ cond owned OK NOENT
-    → c ≡ cond (eqb (length b) 128) (cond owned (pad 128 0 (properties_put (held_regions s.regions i))) (replicate 128 0)) b → Probed s g e b st c
-unfolding probe_bytes
-probed s g e b c i st owned at own told came = rw (sym at, sym own) (told, came)

@@ -1,108 +1,70 @@
 // A request that is not refused: the handler of its type, and what is written.
-ghost use Rattle.std.specs.Prelude.{◌≤◌, length};
+ghost use Rattle.std.specs.Prelude.{◌≡◌, ◌+◌, length};
 ghost use Rattle.rules.specs.Sizes.{status_size};
-ghost use Rattle.rules.specs.declared.State.{State};
-ghost use Rattle.refinement.specs.Flat.{with_status};
-ghost use Rattle.call_request.specs.Answered.{lent, Handled, Answered};
+ghost use Rattle.rules.specs.Failures.{outcome_status};
+ghost use Rattle.refinement.specs.Flat.{device, with_status};
+ghost use Rattle.refinement.specs.Requesting.{handle, bytes_before, served};
+ghost use Rattle.call_request.specs.Handled.{Handled};
 
-use refinement::HandlerResult;
-use rules::requests::DEVERR;
-use rules::sizes::{MAX_ENDPOINTS, REGION_PLACES, STATUS_SIZE};
-use rules::{Guest, Mapping, Settings};
+use call_attach::{handle_attach, handle_detach};
+use call_map::handle_map;
+use call_probe::handle_probe;
+use call_unmap::handle_unmap;
+use rules::requests::{Failure, OK};
+use rules::sizes::STATUS_SIZE;
+use rules::{Answer, Guest, Mapping, State};
+use table_record::key_of;
 use wire_requests::request::Request;
+use wire_requests::status::put_status;
 
-// What the handler of a request's type gives, with out for the bytes that come before the status; a refused request has none.
-fn handle<'a>(
-    settings: Settings,
-    listed: usize,
-    live: usize,
-    endpoints: &'a [u32; MAX_ENDPOINTS],
-    owners: &'a [u8; MAX_ENDPOINTS],
-    attached: &'a mut [u8; MAX_ENDPOINTS],
-    domains: &'a mut [u32; MAX_ENDPOINTS],
-    regions: &'a [u64; REGION_PLACES],
-    t: &'a mut [u64],
-    g: Guest,
-    q: Request,
-    out: &'a mut [u8],
-) -> HandlerResult
-    ensures { (s : State) → Handled (lent settings listed live endpoints.now owners.now attached.old domains.old regions.now t.old s) g q out.old (with_status result.status (lent settings listed result.live endpoints.now owners.now attached.new domains.new regions.now t.new s)) out.new }
+// What the handler of a request's type gives, with out for the bytes that come before the status.
+#[tactic(auto, using(crate::proofs::Served::handling), unfolding(refinement::specs::Requesting::handle, refinement::specs::Requesting::bytes_before))]
+fn handle(s: &mut State, t: &mut [u64], g: Guest, q: Request, out: &mut [u8]) -> Result<(), Failure>
+    ensures { Handled (device s.old t.old) g q out.old (with_status (outcome_status result) (device s.new t.new)) out.new }
 {
     match q {
-        Request::Refused(_) => HandlerResult {
-            status: DEVERR,
-            live,
-        },
-        Request::Attach(d, e, reserved) => {
-            call_attach::handle_attach(
-                settings, listed, live, endpoints, owners, attached, domains, regions, t, g, d, e,
-                reserved,
-            )
-        }
-        Request::Detach(d, e, reserved) => {
-            call_attach::handle_detach(
-                listed, live, endpoints, owners, attached, domains, t, g, d, e, reserved,
-            )
-        }
+        Request::Attach(d, e, reserved) => handle_attach(s, t, g, d, e, reserved),
+        Request::Detach(d, e, reserved) => handle_detach(s, t, g, d, e, reserved),
         Request::Map(d, f) => {
             let r = Mapping {
-                key: table_record::key_of(g, d),
+                key: key_of(g, d),
                 start: f.start,
                 end: f.end,
                 phys: f.phys,
                 flags: f.flags,
             };
-            call_map::handle_map(
-                settings, live, owners, attached, domains, regions, t, g, d, r,
-            )
+            handle_map(s, t, g, d, r)
         }
-        Request::Unmap(d, f) => {
-            call_unmap::handle_unmap(
-                live, owners, attached, domains, t, g, d, f.start, f.end, f.reserved,
-            )
-        }
-        Request::Probe(e) => {
-            let status = call_probe::handle_probe(listed, endpoints, owners, regions, g, e, out);
-            HandlerResult { status, live }
-        }
+        Request::Unmap(d, f) => handle_unmap(s, t, g, d, f.start, f.end, f.reserved),
+        Request::Probe(e) => handle_probe(s, g, e, out),
+    }
+}
+
+// The status that a handler's outcome is answered with.
+fn status_of(outcome: Result<(), Failure>) -> u8
+    ensures { result ≡ outcome_status outcome }
+{
+    match outcome {
+        Ok(()) => OK,
+        Err(f) => f as u8,
     }
 }
 
 // A request handled and answered: the bytes of the writable part before its last four are lent to the handler, the last four
 // for the status.
-pub(crate) fn answer<'a>(
-    settings: Settings,
-    listed: usize,
-    live: usize,
-    endpoints: &'a [u32; MAX_ENDPOINTS],
-    owners: &'a [u8; MAX_ENDPOINTS],
-    attached: &'a mut [u8; MAX_ENDPOINTS],
-    domains: &'a mut [u32; MAX_ENDPOINTS],
-    regions: &'a [u64; REGION_PLACES],
-    t: &'a mut [u64],
+pub(crate) fn answer(
+    s: &mut State,
+    t: &mut [u64],
     g: Guest,
     q: Request,
-    writable: &'a mut [u8],
-) -> HandlerResult
-    requires { status_size ≤ length writable.old }
-    ensures { (s : State) → Answered (lent settings listed live endpoints.now owners.now attached.old domains.old regions.now t.old s) g q writable.old (with_status result.status (lent settings listed result.live endpoints.now owners.now attached.new domains.new regions.now t.new s)) writable.new }
+    writable: &mut [u8],
+) -> Answer
+    requires { length writable.old ≡ length (bytes_before (device s.old t.old) g q) + status_size }
+    ensures { (record { answer = result; buffer = writable.new }, device s.new t.new) ≡ served (bytes_before (device s.old t.old) g q) (handle (device s.old t.old) g q) }
 {
     let n = writable.len();
-    let before = n - STATUS_SIZE;
-    let h = handle(
-        settings,
-        listed,
-        live,
-        endpoints,
-        owners,
-        attached,
-        domains,
-        regions,
-        t,
-        g,
-        q,
-        &mut writable[0..before],
-    );
-    wire_requests::status::put_status(&mut writable[before..n], h.status);
-    h
+    let (body, tail) = writable.split_at_mut(n - STATUS_SIZE);
+    let outcome = handle(s, t, g, q, body);
+    put_status(tail, status_of(outcome));
+    Answer::Served(n)
 }

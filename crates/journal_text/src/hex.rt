@@ -12,6 +12,7 @@ pub fn address_line(x: u64) -> [u8; 17]
 {
     let mut line = [b'\n'; 17];
     let mut n = x;
+    // By place: the lowest digit stands last.
     for i in (0..16).rev() {
         line[i] = digit((n % 16) as u8);
         n /= 16;

@@ -2,4 +2,3 @@ pub mod Halved
 pub mod Halves
 pub mod InOrder
 pub mod Outcomes
-mod Passing

@@ -11,7 +11,7 @@ use table_record::{bounded, get};
 
 // Whether the flags have the one that an access of this kind asks for.
 #[tactic(auto, unfolding(rules::specs::Access::has_flag))]
-fn has_flag(kind: u8, flags: u64) -> bool
+pub fn has_flag(kind: u8, flags: u64) -> bool
     ensures { result ≡ access.has_flag kind flags }
 {
     if kind == 0 {

@@ -8,6 +8,7 @@ fn number_at(bytes: &[u8], k: usize, n: usize) -> u64
     ensures { (result ≡ le_field k n bytes.now) × (result < 256 ^ n) }
 {
     let mut x: u64 = 0;
+    // By place: the highest byte is the last.
     for i in (0..n).rev() {
         x = 256 * x + u64::from(bytes[k + i]);
     }

@@ -1,25 +1,23 @@
 -- The guest's number and its log's count decide; then as many as are held and fit.
-use borrow.Author.Rules.{rules}
-use Rattle.state_fields.specs.Fields.{with_counts}
 use Rattle.call_fetch.proofs.Outcomes.{fetch-of-none, fetch-no-log, fetch-log-past, fetch-gives}
 use Rattle.call_fetch.proofs.fetch_faults.Goals as goal
 
-pub returns-then-guests-guest : goal.returns-then-guests-guest
-returns-then-guests-guest c =
+pub returns-then-s-guest : goal.returns-then-s-guest
+returns-then-s-guest c =
     let a = c.args in
-    λ s. fetch-of-none a.guests _ a.g a.buffer.now c.if-guests-guest.true
+    fetch-of-none _ a.s.now a.g a.buffer.now c.if-s-guest.true
 
 pub returns-then-guest-ge-MAX_GUESTS : goal.returns-then-guest-ge-MAX_GUESTS
 returns-then-guest-ge-MAX_GUESTS c =
     let a = c.args in
-    λ s. fetch-no-log a.guests _ a.g a.buffer.now c.if-guests-guest.false c.if-guest-ge-MAX_GUESTS.true
+    fetch-no-log _ a.s.now a.g a.buffer.now c.if-s-guest.false c.if-guest-ge-MAX_GUESTS.true
 
 pub returns-then-held-gt-MAX_FAULTS : goal.returns-then-held-gt-MAX_FAULTS
 returns-then-held-gt-MAX_FAULTS c =
     let a = c.args in
-    λ s. fetch-log-past a.guests _ a.g a.buffer.now c.if-guests-guest.false c.if-guest-ge-MAX_GUESTS.false c.if-held-gt-MAX_FAULTS.true
+    fetch-log-past _ a.s.now a.g a.buffer.now c.if-s-guest.false c.if-guest-ge-MAX_GUESTS.false c.if-held-gt-MAX_FAULTS.true
 
 pub returns : goal.returns
 returns c =
     let a = c.args in
-    λ s. fetch-gives a.guests _ a.g a.buffer.now c.if-guests-guest.false c.if-guest-ge-MAX_GUESTS.false c.if-held-gt-MAX_FAULTS.false _ _ _ c.least-n.ensures (c.put_faults.ensures (with_counts a.logged.now s.lost s)) (c.drop_faults.ensures s)
+    fetch-gives _ a.s.now a.g a.buffer.now c.if-s-guest.false c.if-guest-ge-MAX_GUESTS.false c.if-held-gt-MAX_FAULTS.false _ _ _ c.min-n.ensures c.put_faults.ensures c.drop_faults.ensures

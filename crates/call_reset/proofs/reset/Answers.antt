@@ -1,5 +1,21 @@
-use borrow.Author.Rules.{rules}
+-- What the test refuses is answered so; what it passes is worked.
+use mathlib.Core.Path.{◌∙◌}
+use Rattle.rules.specs.Device as rules
+use Rattle.sound.proofs.Checks.{job-refused, job-passes}
+use Rattle.refinement.specs.Flat.{device}
+use Rattle.refinement.proofs.Resetting.{reset-is-step}
 use Rattle.call_reset.proofs.reset.Goals as goal
 
+pub returns-in-Err : goal.returns-in-Err
+returns-in-Err c =
+    let k = c.check_job in
+    let a = c.args in
+    job-refused (device a.s.now a.t.now) a.g k.result k.ensures.value rules.reset c.in-Err.e c.in-Err.is
+
 pub returns : goal.returns
-returns c = c.checked_reset-done.ensures
+returns c =
+    let k = c.check_job in
+    let a = c.args in
+    let d = device a.s.now a.t.now in
+    let p = job-passes d a.g k.result k.ensures.value c.in_default.is in
+    c.reset_guest.ensures ∙ reset-is-step d p.0 c.in_default.ensures.lengths a.g
