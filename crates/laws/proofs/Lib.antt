@@ -6,3 +6,4 @@ pub mod Rounds
 pub mod Owners
 pub mod Owned
 pub mod Runs
+pub mod Chains
