@@ -1,2 +1,2 @@
-mod Decisions
+mod Found
 pub mod Stepping

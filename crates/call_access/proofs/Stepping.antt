@@ -2,13 +2,13 @@
 -- device's step.
 use Prim.Native.Nat.{ℕ, ◌+◌, ◌-◌, ◌≤◌}
 use mathlib.Core.List.{[]}
-use mathlib.Core.Path.{◌≡◌, refl, sym, ◌∙◌}
+use mathlib.Core.Path.{◌≡◌, refl, sym}
 use mathlib.Core.Bool.{Bool, true, false, cond, not}
 use mathlib.Core.Option.{Option, some, none}
 use native.Mathlib.Omega.{arith}
 use lib.Dec.{leb, ltb, eqb}
 use lib.ListN.{get_or}
-use borrow.Author.Tests.{le-leb, leb-true, not-true, not-false}
+use borrow.Author.Tests.{le-leb, leb-true}
 use Rattle.laws.specs.Lists.{all?}
 use Rattle.laws.proofs.Tests.{Clear}
 use Rattle.laws.proofs.Filters.{all-imp, found}
@@ -84,10 +84,10 @@ module _ (d : Device) (h : sound d ≡ true) (k : Lengths d.state) (wide : (i : 
   access-answered x = rw (answer-decides x) (sym (access-step d h k x))
 
 -- the entry at its returns
-module _ (d : Device) (x : Access) (t : Bool) (i : t ≡ sound d) where
-  pub access-unsound : not t ≡ true → (record { answer = Refused Unsound; buffer = [] }, d) ≡ step d (access_by x)
-  access-unsound f = sym (unsound d (access_by x) refl (sym i ∙ not-true t f))
+module _ (d : Device) (x : Access) where
+  pub access-unsound : sound d ≡ false → (record { answer = Refused Unsound; buffer = [] }, d) ≡ step d (access_by x)
+  access-unsound f = sym (unsound d (access_by x) refl f)
 
-  pub access-works : not t ≡ false → Lengths d.state → ((i : ℕ) → window_last d.state.settings i ≤ 18446744073709551615) → (a : Answer) → a ≡ translate d x
+  pub access-works : sound d ≡ true → Lengths d.state → ((i : ℕ) → window_last d.state.settings i ≤ 18446744073709551615) → (a : Answer) → a ≡ translate d x
       → (record { answer = a; buffer = [] }, device (after_access d.state x a) d.table) ≡ step d (access_by x)
-  access-works f k wide a y = rw y (access-answered d (sym i ∙ not-false t f) k wide x)
+  access-works f k wide a y = rw y (access-answered d f k wide x)

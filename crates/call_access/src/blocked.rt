@@ -1,14 +1,11 @@
 // The fault that a blocked access logs.
 ghost use Rattle.std.specs.Prelude.{◌≡◌, ◌+◌, get_or};
 ghost use Rattle.rules.specs.declared.Answer.TheVariants.{Blocked};
-ghost use Rattle.rules.specs.declared.State.{State};
 ghost use Rattle.rules.specs.Access.{flag_for, reason_of, fault_of};
 ghost use Rattle.rules.specs.Sound.{guest};
-ghost use Rattle.state_fields.specs.Fields.{with_lists, with_logs};
 ghost use Rattle.refinement.specs.Flat.{after_access};
 
-use rules::sizes::{FAULT_PLACES, MAX_ENDPOINTS, MAX_GUESTS};
-use rules::{Access, Cause, Fault, Guest};
+use rules::{Access, Cause, Fault, Guest, State};
 use state_log::log_fault;
 
 // The flags of a read's fault, READ 1 and ADDRESS 256.
@@ -38,13 +35,10 @@ fn flags_of(kind: u8) -> u32
 fn fault_of(cause: Cause, a: Access) -> Fault
     ensures { result ≡ fault_of cause a }
 {
-    let reason = reason_of(cause);
-    let flags = flags_of(a.kind);
-    let endpoint = a.endpoint;
     Fault {
-        reason,
-        flags,
-        endpoint,
+        reason: reason_of(cause),
+        flags: flags_of(a.kind),
+        endpoint: a.endpoint,
         address: a.address,
     }
 }
@@ -53,30 +47,15 @@ fn fault_of(cause: Cause, a: Access) -> Fault
 fn owner_at(owners: &[u8], i: usize) -> Guest
     ensures { result ≡ guest (get_or owners.now i 0) }
 {
-    if i < owners.len() {
-        return Guest(owners[i]);
-    }
-    Guest(0)
+    Guest(owners.get(i).copied().unwrap_or(0))
 }
 
 // The fault of a blocked access, logged for its endpoint's owner.
-pub(crate) fn report_fault<'a>(
-    listed: usize,
-    endpoints: &'a [u32; MAX_ENDPOINTS],
-    owners: &'a [u8; MAX_ENDPOINTS],
-    logged: &'a mut [usize; MAX_GUESTS],
-    lost: &'a mut [u32; MAX_GUESTS],
-    reasons: &'a mut [u8; FAULT_PLACES],
-    flags: &'a mut [u32; FAULT_PLACES],
-    sources: &'a mut [u32; FAULT_PLACES],
-    addresses: &'a mut [u64; FAULT_PLACES],
-    a: Access,
-    cause: Cause,
-)
-    ensures { (s : State) → with_lists listed endpoints.now owners.now (with_logs logged.new lost.new reasons.new flags.new sources.new addresses.new s) ≡ after_access (with_lists listed endpoints.now owners.now (with_logs logged.old lost.old reasons.old flags.old sources.old addresses.old s)) a (Blocked cause) }
+#[tactic(auto, unfolding(refinement::specs::Flat::after_access))]
+pub(crate) fn report_fault(s: &mut State, a: Access, cause: Cause)
+    ensures { s.new ≡ after_access s.old a (Blocked cause) }
 {
-    let i = state_endpoints::index_of(listed, endpoints, a.endpoint);
-    let owner = owner_at(owners, i);
-    let f = fault_of(cause, a);
-    log_fault(logged, lost, reasons, flags, sources, addresses, owner, f);
+    let i = state_endpoints::index_of(s.listed, &s.endpoints, a.endpoint);
+    let owner = owner_at(&s.owners, i);
+    log_fault(s, owner, fault_of(cause, a));
 }

@@ -9,6 +9,7 @@ use rules::sizes::MAX_ENDPOINTS;
 use rules::{Domain, DomainRange, Endpoint, Guest, State};
 
 // Whether an endpoint is attached to a domain of the range, or not attached and its domain 0.
+#[tactic(auto, unfolding(rules::specs::Sound::attachment_good, rules::specs::Handlers::outside))]
 fn attachment_good(range: DomainRange, flag: u8, d: Domain) -> bool
     ensures { result ≡ attachment_good (range_alone range) flag d }
 {
@@ -16,6 +17,7 @@ fn attachment_good(range: DomainRange, flag: u8, d: Domain) -> bool
 }
 
 // Whether an endpoint's numbers are good: in use, with a good attachment, or zero.
+#[tactic(auto, unfolding(crate::specs::Places::endpoint_good))]
 fn endpoint_good(
     range: DomainRange,
     used: bool,

@@ -8,6 +8,7 @@ use rules::Settings;
 use rules::sizes::{MAX_FAULTS, MAX_GUESTS, MAX_LOST};
 
 // Whether a guest's numbers are good: in use, with log count and lost count within their limits, or zero.
+#[tactic(auto, unfolding(crate::specs::Places::guest_good))]
 fn guest_good(used: bool, share: u32, first: u64, last: u64, count: usize, lost: u32) -> bool
     ensures { result ≡ guest_good used share first last count lost }
 {
