@@ -8,10 +8,10 @@ use native.Mathlib.Nat.{pow-suc, mod-lt, mod_self, mod-eq_of_lt, mod-add-mod, eq
 use lib.Count.{count_trailing_zeros, under}
 use lib.Dec.{leb, ltb, eqb}
 use lib.Pow.{shl_exact}
-use borrow.Author.Tests.{ltb-false, leb-true, eq-eqb, ne_eqb, le-ltb, le-leb, lt-leb}
+use borrow.Author.Tests.{ltb-false, eq-eqb, ne_eqb, le-ltb, le-leb, lt-leb}
 use Rattle.std.specs.Prelude.{Result, Ok, Err}
 use Rattle.std.specs.Result.{is_ok}
-use Rattle.laws.proofs.Tests.{or_left, or_right, or-none, not-both, not-leb, same_test}
+use Rattle.laws.proofs.Tests.{or_left, or_right, or-none, not-both, not-leb}
 use Rattle.rules.specs.Sizes.{top_address}
 use Rattle.rules.specs.declared.Mapping.{Mapping}
 use Rattle.rules.specs.declared.requests.Failure.{Failure}
@@ -56,13 +56,6 @@ next-aligned e g h =
 pub no-bit : (s p e : ℕ) → s < 2 ^ 64 → p < 2 ^ 64 → e < 2 ^ 64 → (eqb s 0 && (eqb p 0 && eqb e top_address)) ≡ (aligned 0 s && (aligned 0 p && aligned 0 (e + 1)))
 unfolding granularity count_trailing_zeros
 no-bit s p e h j k = rw (← next-aligned e (2 ^ 64) (omega arith), mod-eq_of_lt h, mod-eq_of_lt j, mod-eq_of_lt k)
-
--- the length of the addresses from a to b fits from p to l
-pub sum-within : (a b p l : ℕ) → a ≤ b → p ≤ l → leb (b - a) (l - p) ≡ leb (p + b - a) l
-sum-within a b p l h k =
-    same_test (leb (b - a) (l - p)) (leb (p + b - a) l)
-    (λ e. le-leb (p + b - a) l (omega (arith, leb-true)))
-    (λ e. le-leb (b - a) (l - p) (omega (arith, leb-true)))
 
 -- of the numbers from x to y one end lies outside those from a to b where x lies below or y above
 ends-out : (a b x y : ℕ) → x ≤ y → (ltb x a || ltb b y) ≡ (outside a b x || outside a b y)

@@ -1,7 +1,6 @@
 -- A record in itself, and the records of one domain that go on one after another.
 use Rattle.std.specs.Prelude.{ℕ, suc, Bool, cond, ◌&&◌, List, [], ◌∷◌, ltb, eqb}
 use Rattle.laws.specs.Lists.{first_failing}
-use Rattle.rules.specs.declared.InputRange.{InputRange}
 use Rattle.rules.specs.declared.Mapping.{Mapping}
 use Rattle.rules.specs.declared.Settings.{Settings}
 use Rattle.rules.specs.Configuration.{window_first, window_last}
@@ -11,15 +10,11 @@ use Rattle.rules.specs.Sound.{guest, passes}
 use Rattle.map_steps.specs.declared.limits.Limits.{Limits}
 
 -- a guest's limits alone: what steps 2 to 6 of MAP look at
-abbrev pub limits : ℕ → InputRange → ℕ → ℕ → Own
-limits mask input first last =
-    record { guest = guest 0; share = 0; first = first; last = last; mask = mask; input = input; domains = record { start = 0; end = 0 }; endpoints = []; regions = [] }
-
--- and as the code gives them
 abbrev pub limits_of : Limits → Own
-limits_of l = limits l.mask l.input l.first l.last
+limits_of l =
+    record { guest = guest 0; share = 0; first = l.first; last = l.last; mask = l.mask; input = l.input; domains = record { start = 0; end = 0 }; endpoints = []; regions = [] }
 
--- those of the guest with number g
+-- the limits of the guest with number g
 abbrev pub limits_at : Settings → ℕ → Limits
 limits_at s g = record { mask = s.mask; input = s.input; first = window_first s g; last = window_last s g }
 

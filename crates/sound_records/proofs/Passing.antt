@@ -5,7 +5,7 @@ use mathlib.Core.Bool.{Bool, true, false, cond, ◌&&◌, ◌||◌, and_assoc}
 use mathlib.Core.List.{List, ◌∷◌}
 use native.Mathlib.Omega.{arith}
 use lib.Dec.{leb, ltb, eqb}
-use lib.ListN.{length, get_or, take, drop, set, replicate, length-set, get_or-replicate}
+use lib.ListN.{length, get_or, take, drop, set, length-set}
 use lib.Seq.{get_or-set_same, get_or-set_other, drop-drop}
 use borrow.Author.Tests.{eqb-true, eqb-false, lt-ltb, le-ltb}
 use Rattle.laws.specs.Lists.{below}
@@ -38,9 +38,6 @@ abbrev pub Counted : List ℕ → ℕ → List Mapping → Type 0
 Counted counts i l =
     (length counts ≡ max_guests)
     × ((g : ℕ) → g < max_guests → (get_or counts g 0 ≤ i) × (get_or counts g 0 + length (records_of (guest g) (drop i l)) ≡ length (records_of (guest g) l)))
-
-pub count_none : (l : List Mapping) → Counted (replicate {A = ℕ} max_guests 0) 0 l
-count_none l = (refl, λ g h. let e = get_or-replicate {A = ℕ} max_guests g 0 0 h in (omega arith, omega arith))
 
 -- the record x at place i of the first n
 module _ (l : List Mapping) (n i : ℕ) (x : Mapping) (h : i < length (take n l)) (e : x ≡ get_or l i no_mapping) where

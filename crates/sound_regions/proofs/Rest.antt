@@ -14,11 +14,3 @@ module _ (w : List ℕ) (i : ℕ) where
   pub rest-none : max_regions < region_count w i → true ≡ zero_from (used_words w i) (endpoint_regions w i)
   unfolding zero_from
   rest-none h = rw (drop_of_length-le (endpoint_regions w i) {i = used_words w i} (simp length-take (omega arith)))
-
-  -- those from the word after its regions on, of the part that is the endpoint's
-  pub rest_of : zero_from (1 + region_words * region_count w i) (take (endpoint_region_words * i + endpoint_region_words - endpoint_region_words * i) (drop (endpoint_region_words * i) w)) ≡ zero_from (used_words w i) (endpoint_regions w i)
-  rest_of =
-      let a : 1 + region_words * region_count w i ≡ used_words w i = omega arith in
-      let b : endpoint_region_words * i + endpoint_region_words - endpoint_region_words * i ≡ endpoint_region_words = omega arith in
-      ap (λ (m : ℕ). zero_from m (take (endpoint_region_words * i + endpoint_region_words - endpoint_region_words * i) (drop (endpoint_region_words * i) w))) a
-      ∙ ap (λ (m : ℕ). zero_from (used_words w i) (take m (drop (endpoint_region_words * i) w))) b
