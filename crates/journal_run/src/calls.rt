@@ -1,64 +1,49 @@
 // The calls of a journal on a state that runs, with the lines that they print.
-ghost use Rattle.std.specs.Prelude.{◌+◌, ◌*◌, ◌≤◌, length, replicate};
+ghost use Rattle.std.specs.Prelude.{ℕ, ◌+◌, ◌*◌, ◌≤◌, List, length, replicate};
 ghost use Rattle.journal_records.specs.Items.{Fits, request_bytes};
-ghost use Rattle.rules.specs.Sizes.{max_faults, fault_size, status_size, probe_size};
+ghost use Rattle.rules.specs.Sizes.{max_faults, fault_size, probe_size};
+ghost use Rattle.rules.specs.Device.{Reply};
 ghost use Rattle.refinement.specs.Flat.{device};
 ghost use Rattle.refinement.specs.Requesting.{serve};
 ghost use Rattle.refinement.specs.Translating.{access_whole};
 ghost use Rattle.refinement.specs.Resetting.{reset_whole};
 ghost use Rattle.refinement.specs.Fetching.{fetched_whole};
-ghost use Rattle.journal_session.specs.Steps.{record_room, running, requested_step, probed_step, accessed_step, cleared_step, fetched_step};
+ghost use Rattle.journal_session.specs.Steps.{record_room, running, call_step, accessed_step, cleared_step, fetched_step};
 ghost use Rattle.journal_session.specs.Matching.{Matches};
+ghost use Rattle.journal_step.specs.Puts.{Puts};
 
 use call_access::make_access;
 use call_fetch::fetch_faults;
 use call_request::serve;
 use call_reset::reset_guest;
-use journal_line_call::{put_access, put_request};
+use journal_line_call::put_access;
 use journal_line_fetch::put_fetch;
 use journal_line_plain::put_number;
-use journal_line_probe::put_probe;
 use journal_records::size_of;
 use journal_session::results::consumed;
 use journal_session::session::StepResult;
-use rules::sizes::{FAULT_SIZE, MAX_FAULTS, PROBE_SIZE, STATUS_SIZE};
-use rules::{Access, Guest, State};
+use rules::sizes::{FAULT_SIZE, MAX_FAULTS};
+use rules::{Access, Answer, Guest, State};
 
-// A request that is no PROBE, with a writable part of four bytes.
-pub(crate) fn work_request(
+// A request, with a writable part of N bytes; `put` puts its lines.
+pub(crate) fn work_request<const N: usize, F: Fn(&mut [u8], usize, Answer, &[u8]) -> usize>(
     s: &mut State,
     t: &mut [u64],
     b: &[u8],
     g: Guest,
     out: &mut [u8],
     at: usize,
+    put: F,
 ) -> StepResult
-    requires { Fits b.now × (at + record_room ≤ length out.old) }
-    ensures { Matches (running s.new) result t.new out.old out.new at (requested_step b.now (serve (device s.old t.old) g (request_bytes b.now) (replicate status_size 0))) }
+    requires fits { Fits b.now }
+    requires small { N ≤ probe_size }
+    requires callable { F.IsAlwaysCallable put }
+    ensures { (room : ℕ) (lines : Reply → List ℕ) → at + room ≤ length out.old → Puts room lines (F.post put) → Matches (running s.new) result t.new out.old out.new at (call_step b.now lines (serve (device s.old t.old) g (request_bytes b.now) (replicate N 0))) }
 {
     let n = size_of(b);
-    let mut writable: [u8; STATUS_SIZE] = [0; STATUS_SIZE];
+    let mut writable: [u8; N] = [0; N];
     let answer = serve(s, t, g, &b[2..n], &mut writable);
-    let k = put_request(out, at, answer, &writable);
-    consumed(n, k)
-}
-
-// A request, with a writable part that has room for properties.
-pub(crate) fn work_probe(
-    s: &mut State,
-    t: &mut [u64],
-    b: &[u8],
-    g: Guest,
-    out: &mut [u8],
-    at: usize,
-) -> StepResult
-    requires { Fits b.now × (at + record_room ≤ length out.old) }
-    ensures { Matches (running s.new) result t.new out.old out.new at (probed_step b.now (serve (device s.old t.old) g (request_bytes b.now) (replicate probe_size 0))) }
-{
-    let n = size_of(b);
-    let mut writable: [u8; PROBE_SIZE] = [0; PROBE_SIZE];
-    let answer = serve(s, t, g, &b[2..n], &mut writable);
-    let k = put_probe(out, at, answer, &writable);
+    let k = put(out, at, answer, &writable);
     consumed(n, k)
 }
 

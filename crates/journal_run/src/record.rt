@@ -5,11 +5,14 @@ ghost use Rattle.journal_session.specs.Steps.{record_room, running, step_record}
 ghost use Rattle.journal_session.specs.Matching.{Matches};
 ghost use Rattle.journal_run.specs.Running.{Ready};
 
-use crate::calls::{work_access, work_fetch, work_probe, work_request, work_reset};
+use crate::calls::{work_access, work_fetch, work_request, work_reset};
+use journal_line_call::put_request;
+use journal_line_probe::put_probe;
 use journal_records::Item;
 use journal_session::results::unread;
 use journal_session::session::StepResult;
 use rules::State;
+use rules::sizes::{PROBE_SIZE, STATUS_SIZE};
 
 // The record at the front of b; its lines are put at place `at`.
 pub(crate) fn work_record(
@@ -30,8 +33,8 @@ pub(crate) fn work_record(
         Item::NamedEndpoint(_, _) => unread(true),
         Item::Start(_) => unread(true),
         Item::NamedRegion(_, _) => unread(true),
-        Item::Request(g) => work_request(s, t, b, g, out, at),
-        Item::Probe(g) => work_probe(s, t, b, g, out, at),
+        Item::Request(g) => work_request::<STATUS_SIZE, _>(s, t, b, g, out, at, put_request),
+        Item::Probe(g) => work_request::<PROBE_SIZE, _>(s, t, b, g, out, at, put_probe),
         Item::AccessBy(a) => work_access(s, t, b, a, out, at),
         Item::Reset(g) => work_reset(s, t, b, g, out, at),
         Item::Fetch(g, n) => work_fetch(s, t, b, g, n, out, at),

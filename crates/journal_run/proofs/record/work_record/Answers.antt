@@ -1,15 +1,19 @@
 use mathlib.Core.Path.{refl, ap, sym, ◌∙◌}
+use native.Mathlib.Omega.{arith}
+use Rattle.journal_line_call.specs.Lines.{request_line}
+use Rattle.journal_line_probe.specs.Lines.{probe_room, probe_lines}
+use Rattle.journal_text.specs.Placing.{line_room}
 use Rattle.journal_session.specs.Steps.{step_of}
 use Rattle.journal_session.proofs.Matching.{matches-silent}
 use Rattle.journal_step.proofs.Reading.{works, front_fits, asks-few}
 use Rattle.journal_run.proofs.Running.{told-item, told-request, told-probe, told-access, told-reset, told-fetch}
 use Rattle.journal_run.proofs.record.work_record.Goals as goal
 
-pub work_request-requires : goal.work_request-requires
-work_request-requires c = (front_fits c.args.b.now (ap works (sym c.front.ensures ∙ c.in-Request.is)), c.requires.record_room_in_bounds)
+pub work_request-requires-clause-fits : goal.work_request-requires-clause-fits
+work_request-requires-clause-fits c = front_fits c.args.b.now (ap works (sym c.front.ensures ∙ c.in-Request.is))
 
-pub work_probe-requires : goal.work_probe-requires
-work_probe-requires c = (front_fits c.args.b.now (ap works (sym c.front.ensures ∙ c.in-Probe.is)), c.requires.record_room_in_bounds)
+pub work_request-requires-in-Probe-clause-fits : goal.work_request-requires-in-Probe-clause-fits
+work_request-requires-in-Probe-clause-fits c = front_fits c.args.b.now (ap works (sym c.front.ensures ∙ c.in-Probe.is))
 
 pub work_fetch-requires : goal.work_fetch-requires
 work_fetch-requires c = (rw (sym c.front.ensures ∙ c.in-Fetch.is) at (asks-few c.args.b.now), c.requires.record_room_in_bounds)
@@ -47,12 +51,14 @@ returns-in-NamedRegion c =
 pub returns-in-Request : goal.returns-in-Request
 returns-in-Request c =
     let a = c.args in
-    told-request a.s.now a.t.now a.b.now c.requires.ready _ (sym c.front.ensures ∙ c.in-Request.is) c.work_request.ensures
+    told-request a.s.now a.t.now a.b.now c.requires.ready _ (sym c.front.ensures ∙ c.in-Request.is)
+    (c.work_request.ensures line_room (λ r. request_line r.answer r.buffer) (omega arith) (λ o k x w n left e. (e.1.0, e.1.1)))
 
 pub returns-in-Probe : goal.returns-in-Probe
 returns-in-Probe c =
     let a = c.args in
-    told-probe a.s.now a.t.now a.b.now c.requires.ready _ (sym c.front.ensures ∙ c.in-Probe.is) c.work_probe.ensures
+    told-probe a.s.now a.t.now a.b.now c.requires.ready _ (sym c.front.ensures ∙ c.in-Probe.is)
+    (c.work_request-in-Probe.ensures probe_room (λ r. probe_lines r.answer r.buffer) (omega arith) (λ o k x w n left e. e.1))
 
 pub returns-in-AccessBy : goal.returns-in-AccessBy
 returns-in-AccessBy c =
