@@ -44,8 +44,7 @@ fn placed_good(s: &State, t: &[u64]) -> bool
             return false;
         }
         let next = run_end(t, i + 1, live, &limits, r.key, r.end);
-        let count = counts[g];
-        counts[g] = count + (next - i);
+        counts[g] += next - i;
         key = r.key;
         i = next;
     }
