@@ -1,10 +1,8 @@
-use Prim.Native.Nat.{ℕ, ◌-◌}
+use Prim.Native.Nat.{ℕ}
 use native.Mathlib.Omega.{arith}
-use borrow.Author.Rules.{rules}
-use lib.ListN.{replicate, length-replicate}
+use lib.ListN.{length-replicate}
 use Rattle.rules.specs.Sizes.{region_places}
-use Rattle.state_fields.proofs.Rewriting.{Written, written_none, written-store}
-use Rattle.call_setup.specs.Kept.{kept_word}
+use Rattle.state_fields.proofs.Rewriting.{written_none, written-store}
 use Rattle.call_setup.proofs.Placed.{placed-all}
 use Rattle.call_setup.proofs.placing.placed_regions.Goals as goal
 

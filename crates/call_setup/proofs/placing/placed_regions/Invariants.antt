@@ -1,13 +1,10 @@
 -- The places below k hold their words, zero where not in use.
 use Rattle.call_setup.proofs.placing.placed_regions.Given as goal
 use Prim.Native.Nat.{ℕ, ◌-◌}
-use native.Mathlib.Omega.{arith}
-use borrow.Author.Rules.{rules}
-use lib.ListN.{replicate, length-replicate}
+use lib.ListN.{replicate}
 use Rattle.rules.specs.Sizes.{region_places}
-use Rattle.state_fields.proofs.Rewriting.{Written, written_none, written-store}
+use Rattle.state_fields.proofs.Rewriting.{Written}
 use Rattle.call_setup.specs.Kept.{kept_word}
-use Rattle.call_setup.proofs.Placed.{placed-all}
 
 abbrev pub invariant-loop-k : goal.invariant-loop-k
 invariant-loop-k l = Written (kept_word l.n l.words) (replicate {A = ℕ} region_places 0) l.k l.places
