@@ -1,4 +1,4 @@
--- What serving a request shows at its returns.
+-- What a request writes before its status, and the room that there is for it.
 use Prim.Native.Nat.{ℕ, zero, suc, ◌+◌, ◌≤◌}
 use mathlib.Core.Path.{◌≡◌, refl, ap, ◌∙◌}
 use mathlib.Core.Bool.{Bool, true, false, cond}
@@ -66,6 +66,7 @@ module _ (d : Device) (g : Guest) where
       go (suc (suc (suc (suc (suc zero))))) e l h = rw (e, length-probe d.state g _)
       go (suc (suc (suc (suc (suc (suc t)))))) e l h = absurd (omega arith)
 
+  -- so there is for a request as it is parsed
   pub room_parsed : (q : Request) (r : List ℕ) (n : ℕ) → Ok q ≡ parsed r n → n ≡ length (bytes_before d g q) + status_size
   room_parsed q r n e =
       let p = parsed-asked q r n e in

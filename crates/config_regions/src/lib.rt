@@ -53,11 +53,7 @@ fn is_fitting(words: &[u64], i: usize, j: usize) -> bool
     ensures { result ≡ fitting (region_at words.now i) j }
 {
     let q = region_of(words, i, j);
-    let mut ok = true;
-    for k in 0..j {
-        ok = is_apart(region_of(words, i, k), q) & ok;
-    }
-    is_formed(q) & ok
+    is_formed(q) & (0..j).all(|k| is_apart(region_of(words, i, k), q))
 }
 
 // Whether the regions of endpoint i are good: at most four, each fitting.
@@ -69,11 +65,7 @@ fn endpoint_good(words: &[u64], i: usize) -> bool
     if n > MAX_REGIONS {
         return false;
     }
-    let mut ok = true;
-    for j in 0..n {
-        ok = is_fitting(words, i, j) & ok;
-    }
-    ok
+    (0..n).all(|j| is_fitting(words, i, j))
 }
 
 // Whether the words are those for n endpoints, and the regions of each are good.
@@ -86,9 +78,5 @@ pub fn good_regions(n: usize, words: &[u64]) -> bool
     if words.len() % ENDPOINT_REGION_WORDS != 0 {
         return false;
     }
-    let mut ok = true;
-    for i in 0..n {
-        ok = endpoint_good(words, i) & ok;
-    }
-    ok
+    (0..n).all(|i| endpoint_good(words, i))
 }

@@ -1,14 +1,15 @@
--- What one turn of a loop adds to a sum.
-use Prim.Native.Nat.{ℕ, ◌+◌}
+-- The sum of a list's first elements, in the words of the definitions.
+use Prim.Native.Nat.{ℕ, zero, suc, ◌≤◌}
 use mathlib.Core.Path.{◌≡◌, refl}
+use mathlib.Core.List.{List}
+use native.Mathlib.Omega.{arith}
 use native.Mathlib.Numerals.{add-one}
+use lib.ListN.{length, get_or, take}
+use Rattle.std.specs.List.{sum}
+use Rattle.std.proofs.lemmas.List.Sums.{sum_by_more}
 use Rattle.laws.specs.Lists.{sum_below}
 
--- from zero upwards
-pub sum-empty : (f : ℕ → ℕ) → sum_below 0 f ≡ 0
+pub sum-first : (xs : List ℕ) (n : ℕ) → n ≤ length xs → sum (take n xs) ≡ sum_below n (λ i. get_or xs i 0)
 unfolding sum_below
-sum-empty f = refl
-
-pub sum-round : (n : ℕ) (f : ℕ → ℕ) → sum_below (n + 1) f ≡ f n + sum_below n f
-unfolding sum_below
-sum-round n f = rw (add-one n)
+sum-first xs zero h = refl
+sum-first xs (suc n) h = omega (arith, rw (add-one n) at (sum_by_more (λ x. x) xs n 0 (omega arith)), sum-first xs n (omega arith))

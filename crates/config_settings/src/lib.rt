@@ -17,13 +17,10 @@ fn windows_filled(s: Settings, n: usize) -> bool
     requires { n ≤ max_guests }
     ensures { result ≡ below n (λ g. leb (window_first s g) (window_last s g)) }
 {
-    let firsts = s.firsts;
-    let lasts = s.lasts;
-    let mut ok = true;
-    for g in 0..n {
-        ok = (firsts[g] <= lasts[g]) & ok;
-    }
-    ok
+    s.firsts[..n]
+        .iter()
+        .zip(&s.lasts[..n])
+        .all(|(first, last)| first <= last)
 }
 
 // Whether guest g's window has no address in common with that of a guest below it.
@@ -31,14 +28,13 @@ fn window_apart(s: Settings, g: Guest) -> bool
     requires { g.0 < max_guests }
     ensures { result ≡ below g.0 (λ h. not (share_address s g.0 h)) }
 {
-    let guest = g.0 as usize;
-    let firsts = s.firsts;
-    let lasts = s.lasts;
-    let mut ok = true;
-    for h in 0..guest {
-        ok = !((firsts[guest] <= lasts[h]) & (firsts[h] <= lasts[guest])) & ok;
-    }
-    ok
+    let guest = usize::from(g.0);
+    let first = s.firsts[guest];
+    let last = s.lasts[guest];
+    s.firsts[..guest]
+        .iter()
+        .zip(&s.lasts[..guest])
+        .all(|(a, b)| !((first <= *b) & (*a <= last)))
 }
 
 // Whether no two windows of the first n guests have an address in common.
@@ -46,11 +42,7 @@ fn windows_apart(s: Settings, n: usize) -> bool
     requires { n ≤ max_guests }
     ensures { result ≡ below n (λ g. below g (λ h. not (share_address s g h))) }
 {
-    let mut ok = true;
-    for g in 0..n {
-        ok = window_apart(s, Guest(g as u8)) & ok;
-    }
-    ok
+    (0..n).all(|g| window_apart(s, Guest(g as u8)))
 }
 
 // The sum of the first n guests' shares.
@@ -58,12 +50,7 @@ fn shares_sum(s: Settings, n: usize) -> u64
     requires { n ≤ max_guests }
     ensures { result ≡ sum_below n (share s) }
 {
-    let shares = s.shares;
-    let mut sum: u64 = 0;
-    for g in 0..n {
-        sum = shares[g] as u64 + sum;
-    }
-    sum
+    s.shares[..n].iter().map(|&share| u64::from(share)).sum()
 }
 
 // Whether the settings are good.

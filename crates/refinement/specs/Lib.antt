@@ -3,5 +3,4 @@ pub mod Requesting
 pub mod Translating
 pub mod Resetting
 pub mod Fetching
-pub mod Replied
 pub mod Setting

@@ -1,10 +1,9 @@
 -- A guest's job by the test that comes before it.
-use Prim.Native.Nat.{ℕ, ◌≤◌, ◌<◌}
+use Prim.Native.Nat.{ℕ}
 use mathlib.Core.Path.{◌≡◌, refl, sym, ◌∙◌}
-use mathlib.Core.Bool.{Bool, true, false, not}
+use mathlib.Core.Bool.{Bool, true, false}
 use native.Mathlib.Omega.{arith}
 use lib.Dec.{ltb}
-use borrow.Author.Tests.{lt-ltb, le-ltb}
 use Rattle.std.specs.Prelude.{Result, Ok, Err}
 use Rattle.rules.specs.declared.Guest.{Guest}
 use Rattle.rules.specs.declared.Answer.TheVariants.{Refused}
@@ -15,18 +14,6 @@ use Rattle.rules.specs.Sound.{sound}
 use Rattle.rules.specs.Device.{Job, of_guest, Reply, lent_for, refused_with, step}
 use Rattle.rules.proofs.Refusals.{no-such-guest, unsound}
 use Rattle.sound.specs.Checks.{job_checked}
-
--- the test as it returns
-module _ (d : Device) (g : Guest) where
-  pub checks-number : d.state.settings.guests ≤ g.0 → Err NoSuchGuest ≡ job_checked d g
-  checks-number h = rw (le-ltb g.0 d.state.settings.guests h)
-
-  module _ (h : g.0 < d.state.settings.guests) (t : Bool) (e : t ≡ sound d) where
-    pub checks-soundness : not t ≡ true → Err Unsound ≡ job_checked d g
-    checks-soundness f = rw (lt-ltb g.0 d.state.settings.guests h, sym e, f)
-
-    pub checks-pass : not t ≡ false → Ok tt ≡ job_checked d g
-    checks-pass f = rw (lt-ltb g.0 d.state.settings.guests h, sym e, f)
 
 -- a job on any state and table, by what the test gave
 module _ (d : Device) (g : Guest) (r : Result (Unit {0}) Refusal) (e : r ≡ job_checked d g) where

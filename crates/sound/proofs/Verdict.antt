@@ -5,9 +5,9 @@ use mathlib.Core.Bool.{Bool, true, false, cond, not, ◌&&◌, and-true, and-fal
 use mathlib.Core.List.{List, [], ◌∷◌}
 use mathlib.Core.Option.{Option, some}
 use native.Mathlib.Omega.{arith}
-use lib.Dec.{leb, ltb, eqb}
+use lib.Dec.{leb, ltb}
 use lib.ListN.{length, take}
-use borrow.Author.Tests.{lt-ltb, le-leb, leb-true, eq-eqb}
+use borrow.Author.Tests.{lt-ltb, le-leb, leb-true}
 use Rattle.laws.specs.Lists.{all?, every?, first_failing}
 use Rattle.laws.proofs.Tests.{both, both_left, both_right, true-false, same_test, cleared}
 use Rattle.laws.proofs.Filters.{all-imp}
@@ -77,12 +77,6 @@ module _ (d : Device) where
 
   abbrev n : ℕ
   n = d.state.listed
-
-  pub words-missing : eqb (length d.table) table_words ≡ false → framed ≡ false
-  words-missing = unless (eqb (length d.table) table_words) framed (λ h. eq-eqb _ _ (frame-facts d h).words)
-
-  pub live-past : leb d.state.live max_records ≡ false → framed ≡ false
-  live-past = unless (leb d.state.live max_records) framed (λ h. le-leb _ _ (frame-facts d h).live)
 
   pub endpoints-past : leb n max_endpoints ≡ false → framed ≡ false
   endpoints-past = unless (leb n max_endpoints) framed (λ h. endpoints-fit d (frame-facts d h))

@@ -6,16 +6,14 @@ ghost use Rattle.rules.specs.State.{fault_at};
 ghost use Rattle.rules.specs.Sound.{fault_zero};
 
 use rules::State;
-use rules::sizes::MAX_GUESTS;
 
 // Whether no log has a fault.
 pub(crate) fn none_logged(s: &State) -> bool
     ensures { result ≡ below max_guests (λ g. eqb (get_or s.now.logged g 0) 0) }
 {
     let mut ok = true;
-    // By place: the test that is proved goes by the guest's number.
-    for g in 0..MAX_GUESTS {
-        ok = (s.logged[g] == 0) & ok;
+    for &count in &s.logged {
+        ok = (count == 0) & ok;
     }
     ok
 }

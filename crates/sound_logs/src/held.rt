@@ -12,6 +12,7 @@ use rules::sizes::{MAX_ENDPOINTS, MAX_FAULTS};
 use rules::{Endpoint, Fault, Guest, State};
 
 // Whether f has the form of a fault and names an endpoint of guest g.
+#[tactic(auto, unfolding(rules::specs::Sound::fault_good))]
 fn fault_good(
     s: &State,
     owners: &[u32; MAX_ENDPOINTS],

@@ -22,6 +22,7 @@ pub fn held(t: &[u64], live: usize, g: Guest) -> usize
 {
     let n = bounded(t, live);
     let mut count: usize = 0;
+    // By place: a record is five words of the table, which its place finds.
     for i in 0..n {
         if is_of(get(t, i), g) {
             count += 1;

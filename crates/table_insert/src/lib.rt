@@ -22,6 +22,7 @@ fn insertion_index(t: &[u64], live: usize, r: Mapping) -> usize
     requires { live ≤ length (records t.now) }
     ensures { (result ≡ mapping_index r (take live (records t.now))) × (result ≤ live) }
 {
+    // By place: a record is five words of the table, which its place finds.
     for i in 0..live {
         if precedes(r, table_record::get(t, i)) {
             return i;
@@ -36,6 +37,7 @@ fn shift_in(t: &mut [u64], at: usize, live: usize, r: Mapping)
     ensures { t.new ≡ words (insert_at at r (take live (records t.old)) ++ drop (live + 1) (records t.old)) ++ spare t.old }
 {
     let mut carried = r;
+    // By place: each record is read before the one below it is written in its place.
     for i in at..live {
         let next = table_record::get(t, i);
         write(t, i, carried);

@@ -26,6 +26,7 @@ fn any_met(t: &[u64], live: usize, key: u64, a: u64, b: u64, inner: bool) -> boo
 {
     let n = bounded(t, live);
     let mut found = false;
+    // By place: a record is five words of the table, which its place finds.
     for i in 0..n {
         found = found | is_met(get(t, i), key, a, b, inner);
     }

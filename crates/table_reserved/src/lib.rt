@@ -33,6 +33,7 @@ pub fn regions_met(t: &[u64], live: usize, key: u64, regions: &[u64], i: usize) 
     }
     let n = count_at(regions, i);
     let mut met = false;
+    // By place: a region is three of the endpoint's words, which its place finds.
     for j in 0..n {
         met = met | region_met(t, live, key, region_at(regions, i, j));
     }

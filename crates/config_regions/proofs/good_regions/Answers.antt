@@ -1,10 +1,12 @@
-use native.Mathlib.Omega.{arith}
-use borrow.Author.Rules.{rules}
-use Prim.Native.Nat.{◌*◌, ◌-◌}
+use Rattle.std.proofs.Common.{rules, tests, arith}
+use Prim.Native.Nat.{ℕ, ◌*◌}
 use mathlib.Core.Path.{◌≡◌, ◌∙◌}
+use mathlib.Core.Bool.{Bool}
 use lib.ListN.{length}
+use Rattle.std.proofs.lemmas.Iterator.{YieldsList-from_range}
+use Rattle.std.proofs.lemmas.Iterator.Search.{all_from_yields_List}
 use Rattle.laws.specs.Lists.{every?}
-use Rattle.laws.proofs.Rounds.{Tested, tested-none, tested-next, tested-all}
+use Rattle.laws.proofs.Chains.{all-numbers}
 use Rattle.rules.specs.Sizes.{endpoint_region_words}
 use Rattle.rules.specs.Configuration.{regions_at, region_tests}
 use Rattle.config_regions.proofs.Fitting.{words-other, words-whole}
@@ -16,21 +18,12 @@ returns-then-words-n c = let a = c.args in words-other a.n a.words.now (λ e. c.
 pub returns-then-words-ne0 : goal.returns-then-words-ne0
 returns-then-words-ne0 c = let a = c.args in words-other a.n a.words.now (λ e. c.if-words-ne0.true (omega (arith, e)))
 
-pub loop-i-preserved : goal.loop-i-preserved
-loop-i-preserved c =
-    let l = c.loop-i in
-    (l.invariant.0, tested-next _ _ l.ok c.endpoint_good-ok.result l.i l.invariant.1 (omega arith) c.endpoint_good-ok.ensures)
-
 pub returns : goal.returns
 returns c =
-    let l = c.loop-i in
-    let a = c.args in
-    tested-all _ _ l.ok l.i l.invariant.1 (omega arith) ∙ words-whole a.n a.words.now l.invariant.0
-
-pub loop-i-init : goal.loop-i-init
-loop-i-init c =
-    (omega (arith, c.if-words-ne0.false, c.if-words-n.false), tested-none _ _)
-
-pub endpoint_good-ok-requires : goal.endpoint_good-ok-requires
-endpoint_good-ok-requires c =
-    omega (arith, c.loop-i.invariant.0)
+    let n = c.args.n in
+    let w = c.args.words.now in
+    let whole : length w ≡ endpoint_region_words * n = omega (arith, c.if-words-ne0.false, c.if-words-n.false) in
+    let q : ℕ → Bool = λ i. every? (region_tests (regions_at w i)) in
+    all_from_yields_List q c.all.new.self _ c.all.result c.all.ensures.ran (YieldsList-from_range 0 n n (cc) (omega arith)) (λ x b h k. search (rules, tests))
+    ∙ all-numbers q n
+    ∙ words-whole n w whole

@@ -1,31 +1,20 @@
-use native.Mathlib.Omega.{arith}
-use borrow.Author.Rules.{rules}
-use mathlib.Core.Path.{◌≡◌, sym}
-use mir.Syntax.{w32}
-use mir.Val.{Fits}
-use Rattle.rules.specs.Configuration.{share}
-use Rattle.config_settings.proofs.Sums.{sum-empty, sum-round}
+use Rattle.std.proofs.Common.{rules, tests, arith}
+use Prim.Native.Nat.{◌+◌}
+use mathlib.Core.Path.{◌∙◌}
+use lib.ListN.{take}
+use Rattle.std.proofs.lemmas.Iterator.{YieldsList-from_slice, YieldsList-from_map}
+use Rattle.std.proofs.lemmas.Iterator.Adapters.{at_most_from_yields_List, fits_from_length, total_from_yields_List}
+use Rattle.std.proofs.lemmas.List.Sums.{sum-map}
+use Rattle.config_settings.proofs.Sums.{sum-first}
 use Rattle.config_settings.proofs.shares_sum.Goals as goal
 
-pub loop-g-init : goal.loop-g-init
-loop-g-init c =
-    let s = c.args.s in
-    (omega arith, omega arith, omega arith, sym (sum-empty (share s)))
-
-pub overflow_add-sum : goal.overflow_add-sum
-overflow_add-sum c =
-    let f : Fits w32 (share c.args.s c.loop-g.g) = search rules in
-    record { fits = omega (arith, f.fits) }
-
-pub loop-g-preserved : goal.loop-g-preserved
-loop-g-preserved c =
-    let l = c.loop-g in
-    let s = c.args.s in
-    let f : Fits w32 (share s l.g) = search rules in
-    (omega arith, l.invariant.1, omega (arith, f.fits), rw (sum-round l.g (share s), ← l.invariant.3))
+pub sum-requires-clause-fits : goal.sum-requires-clause-fits
+sum-requires-clause-fits c =
+    fits_from_length _ _ 4 _ (at_most_from_yields_List (YieldsList-from_slice (take c.args.n c.args.s.shares) cc) (omega arith)) c.map.ensures.closure (omega arith) (λ x r q k. search (rules, tests))
 
 pub returns : goal.returns
 returns c =
-    let l = c.loop-g in
-    let e : l.g ≡ c.args.n = omega arith in
-    rw e at l.invariant.3
+    let shares = take c.args.n c.args.s.shares in
+    total_from_yields_List (λ a x. a + x) 0 c.sum.result c.sum.ensures.ran (YieldsList-from_map _ (λ x. x) (YieldsList-from_slice shares cc) c.map.ensures.closure (λ x r q k. search rules))
+    ∙ sum-map (λ x. x) shares
+    ∙ sum-first c.args.s.shares c.args.n (omega arith)

@@ -1,13 +1,17 @@
-use native.Mathlib.Omega.{arith}
-use Rattle.laws.proofs.Rounds.{tested-none, tested-next, tested-all}
+use Rattle.std.proofs.Common.{rules, tests, arith}
+use Prim.Native.Nat.{ℕ}
+use mathlib.Core.Path.{◌∙◌}
+use mathlib.Core.Bool.{Bool, not}
+use Rattle.std.proofs.lemmas.Iterator.{YieldsList-from_range}
+use Rattle.std.proofs.lemmas.Iterator.Search.{all_from_yields_List}
+use Rattle.laws.specs.Lists.{below}
+use Rattle.laws.proofs.Chains.{all-numbers}
+use Rattle.rules.specs.Configuration.{share_address}
 use Rattle.config_settings.proofs.windows_apart.Goals as goal
 
-pub loop-g-preserved : goal.loop-g-preserved
-loop-g-preserved c = let l = c.loop-g in tested-next _ _ l.ok c.window_apart-ok.result l.g l.invariant (omega arith) c.window_apart-ok.ensures
-
 pub returns : goal.returns
-returns c = let l = c.loop-g in tested-all _ _ l.ok l.g l.invariant (omega arith)
-
-pub loop-g-init : goal.loop-g-init
-loop-g-init c =
-    tested-none _ _
+returns c =
+    let n = c.args.n in
+    let q : ℕ → Bool = λ g. below g (λ h. not (share_address c.args.s g h)) in
+    all_from_yields_List q c.all.new.self _ c.all.result c.all.ensures.ran (YieldsList-from_range 0 n n (cc) (omega arith)) (λ x b q k. search (rules, tests))
+    ∙ all-numbers q n

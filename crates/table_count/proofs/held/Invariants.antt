@@ -1,17 +1,9 @@
 use Rattle.table_count.proofs.held.Given as goal
-use native.Mathlib.Omega.{arith}
-use borrow.Author.Rules.{rules}
 use Prim.Native.Nat.{◌≤◌, ◌+◌, ◌-◌}
-use mathlib.Core.Path.{◌≡◌, sym, ap, ◌∙◌}
-use mathlib.Core.Bool.{Bool}
-use mathlib.Core.Logic.{⊎_elim}
-use lib.Dec.{eqb}
+use mathlib.Core.Path.{◌≡◌}
 use lib.ListN.{length, take, drop}
-use Rattle.rules.specs.declared.Mapping.{Mapping}
-use Rattle.rules.specs.Table.{records, guest_of}
+use Rattle.rules.specs.Table.{records}
 use Rattle.rules.specs.Guests.{records_of}
-use Rattle.table_record.specs.Records.{no_mapping}
-use Rattle.table_record.proofs.Laws.{gone, keep-yes, keep-no}
 
 abbrev pub invariant-loop-i : goal.invariant-loop-i
 invariant-loop-i l =

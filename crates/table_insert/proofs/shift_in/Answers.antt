@@ -1,10 +1,9 @@
 use native.Mathlib.Omega.{arith}
-use borrow.Author.Rules.{rules}
-use Prim.Native.Nat.{◌≤◌, ◌+◌, ◌-◌}
-use mathlib.Core.Path.{◌≡◌, refl, ◌∙◌}
-use lib.ListN.{length, get_or, set}
+use Prim.Native.Nat.{◌+◌}
+use mathlib.Core.Path.{◌≡◌, ◌∙◌}
+use lib.ListN.{get_or, set}
 use Rattle.rules.specs.Table.{records}
-use Rattle.table_record.specs.Records.{no_mapping, spare}
+use Rattle.table_record.specs.Records.{no_mapping}
 use Rattle.table_insert.proofs.Carrying.{shifted, carry, put-down}
 use Rattle.table_record.proofs.Stored.{same-records, wrote}
 use Rattle.table_insert.proofs.shift_in.Goals as goal
@@ -35,11 +34,3 @@ returns c =
     let f : set T a.live x ≡ shifted a.at a.r a.live (records a.t.now) =
     put-down x a.live T (omega arith) ∙ (rw e at c.loop-i.invariant.4) in
     c.write-2.ensures ∙ rw (f, c.loop-i.invariant.5)
-
-pub loop-i-init : goal.loop-i-init
-loop-i-init c =
-    (omega arith, omega arith, refl, refl, refl, refl)
-
-pub shape_of-t : goal.shape_of-t
-shape_of-t c =
-    omega arith

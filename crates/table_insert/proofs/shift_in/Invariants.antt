@@ -1,13 +1,10 @@
 use Rattle.table_insert.proofs.shift_in.Given as goal
-use native.Mathlib.Omega.{arith}
-use borrow.Author.Rules.{rules}
-use Prim.Native.Nat.{◌≤◌, ◌+◌, ◌-◌}
-use mathlib.Core.Path.{◌≡◌, refl, ◌∙◌}
-use lib.ListN.{length, get_or, set}
+use Prim.Native.Nat.{◌≤◌, ◌-◌}
+use mathlib.Core.Path.{◌≡◌}
+use lib.ListN.{length}
 use Rattle.rules.specs.Table.{records}
-use Rattle.table_record.specs.Records.{no_mapping, spare}
-use Rattle.table_insert.proofs.Carrying.{shifted, carry, put-down}
-use Rattle.table_record.proofs.Stored.{same-records, wrote}
+use Rattle.table_record.specs.Records.{spare}
+use Rattle.table_insert.proofs.Carrying.{shifted}
 
 abbrev pub invariant-loop-i : goal.invariant-loop-i
 invariant-loop-i l =

@@ -1,6 +1,5 @@
 use native.Mathlib.Omega.{arith}
-use borrow.Author.Rules.{rules}
-use Prim.Native.Nat.{ℕ, ◌-◌}
+use Prim.Native.Nat.{ℕ}
 use mathlib.Core.Path.{◌≡◌, refl, sym, ◌∙◌}
 use mathlib.Core.Bool.{false}
 use mathlib.Core.List.{List, [], ◌∷◌}
@@ -10,8 +9,8 @@ use Rattle.laws.specs.Lists.{any?}
 use Rattle.rules.specs.declared.Mapping.{Mapping}
 use Rattle.rules.specs.declared.Region.{Region}
 use Rattle.rules.specs.Table.{records}
-use Rattle.state_regions.specs.Held.{held_count, held_regions}
-use Rattle.state_regions.proofs.Regions.{Asked, asked-none, asked-next, asked-all}
+use Rattle.state_regions.specs.Held.{held_regions}
+use Rattle.state_regions.proofs.Regions.{asked-next, asked-all}
 use Rattle.table_reserved.specs.Reserved.{region_met, regions_met}
 use Rattle.table_reserved.proofs.regions_met.Goals as goal
 
@@ -39,7 +38,3 @@ returns c =
     let l = c.loop-j in
     let a = c.args in
     asked-all (region_met a.key (take a.live (records a.t.now))) a.regions.now a.i l.met l.j l.invariant.1 (omega (arith, l.invariant.0))
-
-pub loop-j-init : goal.loop-j-init
-loop-j-init c =
-    (c.count_at-n.ensures, asked-none _ _ _)

@@ -1,28 +1,12 @@
-use native.Mathlib.Omega.{arith}
-use borrow.Author.Rules.{rules}
-use Rattle.journal_line_call.specs.Lines.{request_line}
-use Rattle.journal_text.specs.Placing.{line_room}
-use Rattle.journal_session.specs.Steps.{step_of}
 use Rattle.journal_step.proofs.Calling.{early, later, matches-call}
 use Rattle.journal_step.proofs.called.request.Goals as goal
 
--- the record is whole
-pub slice_bounds-request-count : goal.slice_bounds-request-count
-slice_bounds-request-count c = omega (arith, c.size_of-n.ensures, c.requires.0.1)
+pub returns-then-not-p : goal.returns-then-not-p
+returns-then-not-p g c room lines h puts =
+    early _ c.if-not-p.true c.unread.ensures
 
 pub returns : goal.returns
-unfolding step_of
-returns c =
-    later c.args.p _ c.if-not-p.false
-    (matches-call line_room c.args.s.now _ (λ r. request_line r.answer r.buffer) (omega (arith, c.requires.1)) (rw c.size_of-n.ensures at c.request-given.ensures) (c.put_request-k.ensures.0, c.put_request-k.ensures.1) c.finished.ensures)
-
-pub returns-then-not-p : goal.returns-then-not-p
-returns-then-not-p c =
-    unfold step_of in early _ c.if-not-p.true c.unread.ensures
-
-pub slice_bounds-request-start : goal.slice_bounds-request-start
-slice_bounds-request-start c = slice_bounds-request-count c
-
-pub slice_bounds-request-end : goal.slice_bounds-request-end
-slice_bounds-request-end c =
-    omega (arith, c.size_of-n.ensures, c.requires.0.2)
+returns g c room lines h puts =
+    later c.args.p.now _ c.if-not-p.false
+    (matches-call room c.args.s.now lines h c.if-not-p.false (rw c.size_of-n.ensures at c.request-answer.ensures) (puts _ _ _ _ _ _ c.put-k.ensures)
+    (cc))

@@ -1,8 +1,7 @@
-use mathlib.Core.Path.{ap}
+use mathlib.Core.Path.{refl, ap}
 use mathlib.Core.Bool.{not}
 use mathlib.Core.List.{[]}
 use native.Mathlib.Omega.{arith}
-use borrow.Author.Rules.{rules}
 use Rattle.journal_line_plain.specs.Plain.{letter_s, number_line}
 use Rattle.journal_text.specs.Placing.{line_room}
 use Rattle.journal_session.specs.Steps.{step_of}
@@ -13,9 +12,8 @@ use Rattle.journal_step.proofs.called.start.Goals as goal
 pub returns : goal.returns
 unfolding step_of
 returns c =
-    let a = c.args in
     accepted _ _ _ _ _ _ _ _ _ (ap not c.if-p.false)
-    (matches-call line_room a.s.now _ (λ r. number_line letter_s r.answer) (omega arith) (ap begun c.start-given.ensures) c.put_number-k.ensures c.finished.ensures)
+    (matches-call line_room c.args.s.now (λ r. number_line letter_s r.answer) (omega arith) refl (ap begun c.start-answer.ensures) c.put_number-k.ensures (cc))
 
 pub returns-then-p : goal.returns-then-p
 returns-then-p c =

@@ -4,5 +4,5 @@ use Rattle.viommu.proofs.fetch.viommu_fetch.Goals as goal
 
 pub returns : goal.returns
 returns c =
-    let told = of-fetch c.checked_fetch-answer.ensures c.values_of-values.ensures in
+    let told = of-fetch c.fetch-answer.ensures c.values_of-values.ensures in
     record { number_value = told.0; t_value = told.1 }

@@ -3,4 +3,4 @@ use Rattle.viommu.proofs.Results.{of-reset}
 use Rattle.viommu.proofs.reset.viommu_reset.Goals as goal
 
 pub returns : goal.returns
-returns c = of-reset c.checked_reset-done.ensures c.values_of-values.ensures
+returns c = of-reset c.reset-answer.ensures c.values_of-values.ensures
