@@ -1,4 +1,4 @@
--- A state, and settings, as their pieces, which may be lent one by one, and the lengths of a state's arrays.
+-- A state, and settings, of their pieces.
 use Rattle.std.specs.Prelude.{ℕ, List}
 use Rattle.rules.specs.declared.InputRange.{InputRange}
 use Rattle.rules.specs.declared.DomainRange.{DomainRange}
