@@ -16,12 +16,6 @@ module _ (xs : List ℕ) (n : ℕ) (fits : n ≤ length xs) (i : ℕ) (ok : Bool
   none : n ≤ i → drop i (take n xs) ≡ []
   none h = drop_of_length-le (take n xs) {i = i} (rw (length-take-le n xs fits) h)
 
-  pub all-round : (q : ℕ → Bool) → i < n → (ok && all? q (drop i (take n xs))) ≡ ((ok && q (get_or xs i 0)) && all? q (drop (i + 1) (take n xs)))
-  all-round q h = rw (next h) (sym (and_assoc ok _ _))
-
-  pub all_left : (q : ℕ → Bool) → n ≤ i → (ok && all? q (drop i (take n xs))) ≡ ok
-  all_left q h = rw (none h) (and-true ok)
-
   pub pairs-round : (q : ℕ → ℕ → Bool) → i < n
       → (ok && pairwise q (drop i (take n xs))) ≡ ((ok && all? (q (get_or xs i 0)) (drop (i + 1) (take n xs))) && pairwise q (drop (i + 1) (take n xs)))
   pairs-round q h = rw (next h) (sym (and_assoc ok _ _))

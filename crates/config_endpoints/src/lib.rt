@@ -7,7 +7,6 @@ ghost use Rattle.rules.specs.Configuration.{good_lists};
 
 use rules::Settings;
 use rules::sizes::MAX_ENDPOINTS;
-use state_fields::least;
 
 // The slots for endpoints, one for each remainder of an endpoint's number.
 const SLOTS: usize = 64;
@@ -17,11 +16,9 @@ fn owners_below(guests: usize, n: usize, owners: &[u8]) -> bool
     requires { n ≤ length owners.now }
     ensures { result ≡ all? (λ o. ltb o guests) (take n owners.now) }
 {
-    let mut ok = true;
-    for i in 0..n {
-        ok = ok & ((owners[i] as usize) < guests);
-    }
-    ok
+    owners[..n]
+        .iter()
+        .fold(true, |ok, &owner| ok & (usize::from(owner) < guests))
 }
 
 // Whether the endpoint at place i is none of those from place i + 1 to n.
@@ -30,11 +27,9 @@ fn not_later(i: usize, n: usize, endpoints: &[u32]) -> bool
     ensures { result ≡ all? (λ b. not (eqb (get_or endpoints.now i 0) b)) (drop (i + 1) (take n endpoints.now)) }
 {
     let e = endpoints[i];
-    let mut ok = true;
-    for j in i + 1..n {
-        ok = ok & !(e == endpoints[j]);
-    }
-    ok
+    endpoints[i + 1..n]
+        .iter()
+        .fold(true, |ok, &later| ok & (e != later))
 }
 
 // Whether no two of the first n endpoints are the same.
@@ -42,6 +37,7 @@ fn all_differ(n: usize, endpoints: &[u32]) -> bool
     requires { n ≤ length endpoints.now }
     ensures { result ≡ pairwise (λ a b. not (eqb a b)) (take n endpoints.now) }
 {
+    // By place: each endpoint is compared with those at the places after its own.
     let mut ok = true;
     for i in 0..n {
         ok = ok & not_later(i, n, endpoints);
@@ -56,8 +52,8 @@ fn scattered(n: usize, endpoints: &[u32]) -> bool
 {
     let mut seen: [bool; SLOTS] = [false; SLOTS];
     let mut repeated = false;
-    for i in 0..n {
-        let slot = (endpoints[i] % 64) as usize;
+    for &endpoint in &endpoints[..n] {
+        let slot = (endpoint % 64) as usize;
         repeated = repeated | seen[slot];
         seen[slot] = true;
     }
@@ -79,8 +75,8 @@ fn distinct(n: usize, endpoints: &[u32]) -> bool
 pub fn good_lists(s: Settings, n: usize, endpoints: &[u32], owners: &[u8]) -> bool
     ensures { result ≡ good_lists s (take n endpoints.now) (take n owners.now) }
 {
-    let a = least(n, endpoints.len());
-    let b = least(n, owners.len());
+    let a = n.min(endpoints.len());
+    let b = n.min(owners.len());
     if a != b {
         return false;
     }

@@ -4,6 +4,7 @@ use Rattle.laws.proofs.Tests.{both_left}
 use Rattle.journal_text.specs.Placing.{line_room, placed, written, written_count}
 use Rattle.journal_text.proofs.Places.{placed-none}
 use Rattle.journal_line_plain.specs.Plain.{last_line}
+use Rattle.journal_session.specs.declared.session.Session.{Session}
 use Rattle.journal_session.specs.declared.session.StepResult.{StepResult}
 use Rattle.journal_session.specs.Steps.{RecordStep}
 use Rattle.journal_session.specs.Matching.{Matches}
@@ -60,20 +61,20 @@ module _ (p : Progress) (t block out : List ℕ) (got : ℕ) where
       ap (λ x. x.printed) (played-unread (length out) p.session t (take H block) (eqb-true X.read 0 (both_left (eqb X.read 0) (X.bad || (p.wants && eqb got 0)) e)))
 
   pub leaves :
-      (r : StepResult) (offset left n : ℕ) (words mid rest last : List ℕ)
-      → Matches r words out mid 0 X
+      (u : Session) (r : StepResult) (offset left n : ℕ) (words mid rest last : List ℕ)
+      → Matches u r words out mid 0 X
       → (left ≡ kept_count r.read H block) × (rest ≡ kept r.read H block)
       → offset ≡ (p.offset + r.read) % 2 ^ 64
       → (n ≡ cond (eqb r.read 0 && (r.bad || (p.wants && eqb got 0))) (written_count line_room 0 (last_line left offset) mid) r.printed)
       × (last ≡ cond (eqb r.read 0 && (r.bad || (p.wants && eqb got 0))) (written line_room 0 (last_line left offset) mid) mid)
-      → Leaves (record { progress = record { session = r.session; offset = offset; held = left; wants = eqb r.read 0 }; printed = n; finished = eqb r.read 0 && (r.bad || (p.wants && eqb got 0)) }) words rest out last (advance (length out) p t block got)
+      → Leaves (record { session = u; offset = offset; held = left; wants = eqb r.read 0 }) (record { printed = n; finished = eqb r.read 0 && (r.bad || (p.wants && eqb got 0)) }) words rest out last (advance (length out) p t block got)
   unfolding advance
-  leaves r offset left n words mid rest last tells k o q =
+  leaves u r offset left n words mid rest last tells k o e =
       let kept-all = rw tells.read at k in
       let held : left ≡ H - X.read = kept-all.0 ∙ kept-count X.read H block reads_held (omega arith) in
       let at : offset ≡ (p.offset + X.read) % 2 ^ 64 = rw tells.read at o in
-      let q' = rw (tells.read, tells.bad, held, at) at q in
-      let put = puts (is_over p got X) (last_line (H - X.read) ((p.offset + X.read) % 2 ^ 64)) X.printed out none_before tells.printed tells.lines q' in
+      let e' = rw (tells.read, tells.bad, held, at) at e in
+      let put = puts (is_over p got X) (last_line (H - X.read) ((p.offset + X.read) % 2 ^ 64)) X.printed out none_before tells.printed tells.lines e' in
       rw (tells.session, tells.read, tells.bad, held, at)
       (record {
         progress = refl;

@@ -53,9 +53,9 @@ unfoldable pub advance : ℕ → Progress → List ℕ → List ℕ → ℕ → 
 advance room p t block got =
     leaving room p block got (held_with p block got) (played room p.session t (take (held_with p block got) block))
 
--- a result, and table, block and buffer `out` as left, say all of an advance
-pub record Leaves (r : Advanced) (table block out left : List ℕ) (x : Advance) : Type 0 where
-  pub progress : r.progress ≡ x.progress
+-- the progress as left, a result, and table, block and buffer `out` as left say all of an advance
+pub record Leaves (p : Progress) (r : Advanced) (table block out left : List ℕ) (x : Advance) : Type 0 where
+  pub progress : p ≡ x.progress
   pub words : table ≡ x.table
   pub rest : block ≡ x.block
   pub printed : r.printed ≡ length x.printed

@@ -7,7 +7,8 @@ ghost use Rattle.journal_line_plain.specs.Plain.{last_line};
 ghost use Rattle.journal_blocks.specs.Advances as advances;
 ghost use Rattle.journal_blocks.specs.Advances.{Leaves};
 
-use journal_run::play;
+use journal_rest::keep_rest;
+use journal_run::play::play;
 use journal_session::session;
 use journal_session::session::Session;
 
@@ -21,10 +22,10 @@ pub struct Progress {
     pub wants: bool,
 }
 
-// What an advance leaves: the progress, how many bytes at the front of the buffer are to be written, and whether they are the last.
+// What an advance leaves beside the progress: how many bytes at the front of the buffer are to be written, and whether they are
+// the last.
 #[derive(Clone, Copy)]
 pub struct Advanced {
-    pub progress: Progress,
     pub printed: usize,
     pub finished: bool,
 }
@@ -45,13 +46,7 @@ pub fn beginning() -> Progress
 fn held_with(held: usize, got: usize, len: usize) -> usize
     ensures { result ≡ min (held + got) len }
 {
-    if len < held {
-        return len;
-    }
-    if len - held < got {
-        return len;
-    }
-    held + got
+    held.saturating_add(got).min(len)
 }
 
 // Puts the last line where the journal is over, with `left` bytes left at this offset; else the lines of n bytes stay.
@@ -67,25 +62,24 @@ fn put_over(out: &mut [u8], over: bool, left: usize, offset: u64, n: usize) -> u
 // One advance, after `got` bytes were read behind those held: 0 where none were wanted, or the journal has ended. The whole records
 // held are worked, as far as there is room for their lines, and what is left moves to the front. Where no record is worked,
 // more bytes are wanted, or the journal is over and its last line is put.
-pub fn advance(p: Progress, t: &mut [u64], block: &mut [u8], out: &mut [u8], got: usize) -> Advanced
-    ensures { Leaves result t.new block.new out.old out.new (advances.advance (length out.old) p t.old block.old got) }
+pub fn advance(
+    p: &mut Progress,
+    t: &mut [u64],
+    block: &mut [u8],
+    out: &mut [u8],
+    got: usize,
+) -> Advanced
+    ensures { Leaves p.new result t.new block.new out.old out.new (advances.advance (length out.old) p.old t.old block.old got) }
 {
     let held = held_with(p.held, got, block.len());
-    let before = p.session;
-    let x = play::play(before, t, &block[..held], out);
-    let session = x.session;
-    let left = journal_rest::keep_rest(block, x.read, held);
-    let offset = std::num::wrapping_add_u64(p.offset, x.read as u64);
+    let x = play(&mut p.session, t, &block[..held], out);
     let still = x.read == 0;
     let over = still & (x.bad | (p.wants & (got == 0)));
-    let printed = put_over(out, over, left, offset, x.printed);
+    p.held = keep_rest(block, x.read, held);
+    p.offset = p.offset.wrapping_add(x.read as u64);
+    p.wants = still;
+    let printed = put_over(out, over, p.held, p.offset, x.printed);
     Advanced {
-        progress: Progress {
-            session,
-            offset,
-            held: left,
-            wants: still,
-        },
         printed,
         finished: over,
     }

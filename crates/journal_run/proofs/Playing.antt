@@ -7,14 +7,16 @@ use native.Mathlib.Nat.{zero-add, add-zero, add_assoc}
 use native.Mathlib.Omega.{arith}
 use lib.ListN.{length, take, drop, length-append, length-drop, take-append-drop, drop_of_length-le}
 use lib.Seq.{length-take-le, take-append-add, drop-append-add, take-append_seam, drop-append_seam, drop-drop, take_all}
-use borrow.Rule.Slice.PartMut.{put_mid}
+use borrow.Rule.Slice.PartMut.{put_mid, same_len_mid}
 use Rattle.journal_text.specs.Placing.{placed}
 use Rattle.journal_session.specs.declared.session.Session.{Session}
 use Rattle.journal_session.specs.declared.session.StepResult.{StepResult}
 use Rattle.journal_session.specs.Steps.{record_room, RecordStep, step_record}
 use Rattle.journal_run.specs.Journal.{joined, played}
 use Rattle.journal_session.specs.Matching.{step_result, Matches}
+use Rattle.journal_step.proofs.Reading.{step-reads}
 use Rattle.journal_run.proofs.Repeating.{play-full, play-stop, play-step}
+use Rattle.journal_run.proofs.Stopping.{played-reads}
 
 -- A LINE PUT AFTER OTHERS
 
@@ -64,7 +66,7 @@ placed-rest out m line k e =
     let z : drop (length out - k) (drop k out) ≡ [] = drop_of_length-le (drop k out) {i = length out - k} (omega (arith, length-drop k out)) in
     rw (e, z, append-nil (line ++ drop (0 + length line) (drop k out)), zero-add (length line), drop-drop (length line) k out)
 
-pub tells-rest : {r : StepResult} {t out m : List ℕ} {k : ℕ} {x : RecordStep} → Matches r t (take (length out - k) (drop k out)) m 0 x → Matches r t out (put_mid k (length out - k) out m) k x
+tells-rest : {q : Session} {r : StepResult} {t out m : List ℕ} {k : ℕ} {x : RecordStep} → Matches q r t (take (length out - k) (drop k out)) m 0 x → Matches q r t out (put_mid k (length out - k) out m) k x
 tells-rest {out = out} {m = m} {k = k} {x = x} tells =
     let e : take (length out - k) (drop k out) ≡ drop k out = take_all (length out - k) (drop k out) (omega (arith, length-drop k out)) in
     record {
@@ -86,29 +88,21 @@ so p t n line = record { session = p; table = t; read = n; printed = line; bad =
 regroup : (p : Session) (t line : List ℕ) (n : ℕ) (x y : RecordStep) → joined (so p t n line) (joined x y) ≡ joined (so x.session x.table (n + x.read) (line ++ x.printed)) y
 regroup p t line n x y = rw (add_assoc n x.read y.read, append_assoc line x.printed y.printed)
 
-module _ (p₀ : Session) (t₀ s start : List ℕ) where
-  -- after `read` bytes read and `printed` bytes put
-  pub record Went (p : Session) (t out : List ℕ) (read printed : ℕ) : Type 0 where
-    pub same : length out ≡ length start
-    pub within : read ≤ length s
-    pub fits : printed ≤ length start
-    pub rest : drop printed out ≡ drop printed start
-    pub total : played (length start) p₀ t₀ s ≡ joined (so p t read (take printed out)) (played (length start - printed) p t (drop read s))
+-- after `read` bytes read and `printed` bytes put
+pub record Went (p₀ : Session) (t₀ s start : List ℕ) (p : Session) (t out : List ℕ) (read printed : ℕ) : Type 0 where
+  pub same : length out ≡ length start
+  pub within : read ≤ length s
+  pub fits : printed ≤ length start
+  pub rest : drop printed out ≡ drop printed start
+  pub total : played (length start) p₀ t₀ s ≡ joined (so p t read (take printed out)) (played (length start - printed) p t (drop read s))
 
-  pub begins : Went p₀ t₀ start 0 0
-  begins =
-      record {
-        same = refl;
-        within = omega arith;
-        fits = omega arith;
-        rest = refl;
-        total =
-            let a : length start - 0 ≡ length start = omega arith in
-            rw (a, zero-add (played (length start) p₀ t₀ s).read);
-      }
+module _ {p₀ : Session} {t₀ s start : List ℕ} {p : Session} {t out : List ℕ} {read printed : ℕ} (w : Went p₀ t₀ s start p t out read printed) where
+  -- the bytes that are left, as they are lent
+  left_of : take (length s - read) (drop read s) ≡ drop read s
+  left_of = take_all (length s - read) (drop read s) (omega (arith, length-drop read s))
 
   -- what is worked next, from what was worked so far
-  module _ (p : Session) (t out : List ℕ) (read printed : ℕ) (w : Went p t out read printed) (x : RecordStep) (r : StepResult) (t' out' : List ℕ) (tells : Matches r t' out out' printed x) (whole : length out' ≡ length start) where
+  module _ {x : RecordStep} {q : Session} {r : StepResult} {t' out' : List ℕ} (tells : Matches q r t' out out' printed x) (whole : length out' ≡ length start) where
     after : (printed + length x.printed ≤ length start) × (take (printed + length x.printed) out' ≡ take printed out ++ x.printed) × (drop (printed + length x.printed) out' ≡ drop (printed + length x.printed) start)
     after = (
       fits_after start out x.printed out' printed w.same w.fits w.rest tells.lines whole,
@@ -116,11 +110,11 @@ module _ (p₀ : Session) (t₀ s start : List ℕ) where
       rest-after start out x.printed out' printed w.same w.fits w.rest tells.lines whole,
     )
 
-    pub fits_on : printed + r.printed ≤ length start
+    fits_on : printed + r.printed ≤ length start
     fits_on = rw tells.printed after.0
 
     -- it is all that is left
-    pub ends : played (length start - printed) p t (drop read s) ≡ x → Matches (step_result r.session (read + r.read) (printed + r.printed) r.bad) t' start out' 0 (played (length start) p₀ t₀ s)
+    ends : played (length start - printed) p t (drop read s) ≡ x → Matches q (step_result (read + r.read) (printed + r.printed) r.bad) t' start out' 0 (played (length start) p₀ t₀ s)
     ends e =
         rw (w.total, e)
         (record {
@@ -133,35 +127,71 @@ module _ (p₀ : Session) (t₀ s start : List ℕ) where
         })
 
   -- one more step
-  module _ (p : Session) (t out : List ℕ) (read printed : ℕ) (w : Went p t out read printed) (room : record_room ≤ length start - printed) (r : StepResult) (t' out' : List ℕ) (tells : Matches r t' out out' printed (step_record p t (drop read s))) (whole : length out' ≡ length start) where
+  module _ {q : Session} {r : StepResult} {t' out' : List ℕ} (tells : Matches q r t' out out' printed (step_record p t (take (length s - read) (drop read s)))) (whole : length out' ≡ length start) where
     abbrev X : RecordStep
     X = step_record p t (drop read s)
 
-    -- it works a record
-    pub goes_on : 0 < r.read → read + r.read ≤ length s → Went r.session t' out' (read + r.read) (printed + r.printed)
-    goes_on h l =
-        let left : length start - (printed + length X.printed) ≡ length start - printed - length X.printed = omega arith in
-        let a = after p t out read printed w X r t' out' tells whole in
-        rw (tells.session, tells.words, tells.read, tells.printed)
-        (record {
-          same = whole;
-          within = rw (sym tells.read) l;
-          fits = a.0;
-          rest = a.2;
-          total =
-              w.total
-              ∙ ap (joined (so p t read (take printed out))) (play-step (length start - printed) p t (drop read s) room (rw (sym tells.read) h))
-              ∙ regroup p t (take printed out) read X _
-              ∙ rw (a.1, drop-drop X.read read s, left);
-        })
+    told : Matches q r t' out out' printed X
+    told = rw left_of at tells
 
-    -- it works none: that was the last
-    pub stops : r.read ≡ 0 → Matches (step_result r.session (read + r.read) (printed + r.printed) r.bad) t' start out' 0 (played (length start) p₀ t₀ s)
-    stops e = ends p t out read printed w X r t' out' tells whole (play-stop (length start - printed) p t (drop read s) room (sym tells.read ∙ e))
+    pub reads_on : read + r.read ≤ length s
+    reads_on = omega (arith, told.read, step-reads p t (drop read s), length-drop read s, w.within)
+
+    pub puts_on : printed + r.printed ≤ length start
+    puts_on = fits_on told whole
+
+    module _ (room : record_room ≤ length start - printed) where
+      -- it works a record
+      pub goes_on : 0 < r.read → Went p₀ t₀ s start q t' out' (read + r.read) (printed + r.printed)
+      goes_on h =
+          let left : length start - (printed + length X.printed) ≡ length start - printed - length X.printed = omega arith in
+          let a = after told whole in
+          let l = reads_on in
+          rw (told.session, told.words, told.read, told.printed)
+          (record {
+            same = whole;
+            within = rw (sym told.read) l;
+            fits = a.0;
+            rest = a.2;
+            total =
+                w.total
+                ∙ ap (joined (so p t read (take printed out))) (play-step (length start - printed) p t (drop read s) room (rw (sym told.read) h))
+                ∙ regroup p t (take printed out) read X _
+                ∙ rw (a.1, drop-drop X.read read s, left);
+          })
+
+      -- it works none: that was the last
+      pub stops : r.read ≡ 0 → Matches q (step_result (read + r.read) (printed + r.printed) r.bad) t' start out' 0 (played (length start) p₀ t₀ s)
+      stops e = ends told whole (play-stop (length start - printed) p t (drop read s) room (sym told.read ∙ e))
+
+  -- the rest of the part, worked in the rest of the buffer
+  module _ {q : Session} {r : StepResult} {t' m : List ℕ} (tells : Matches q r t' (take (length out - printed) (drop printed out)) m 0 (played (length (take (length out - printed) (drop printed out))) p t (take (length s - read) (drop read s)))) (whole : length m ≡ length (take (length out - printed) (drop printed out))) where
+    abbrev left : List ℕ
+    left = put_mid printed (length out - printed) out m
+
+    room_left : length (take (length out - printed) (drop printed out)) ≡ length start - printed
+    room_left =
+        let l = length-drop printed out in
+        rw (take_all (length out - printed) (drop printed out) (omega (arith, l))) (l ∙ rw w.same)
+
+    told-rest : Matches q r t' out left printed (played (length start - printed) p t (drop read s))
+    told-rest = tells-rest (rw (left_of, room_left) at tells)
+
+    whole_left : length left ≡ length start
+    whole_left = same_len_mid printed (length out - printed) out m whole ∙ w.same
+
+    pub reads-rest : read + r.read ≤ length s
+    reads-rest = omega (arith, told-rest.read, played-reads (length start - printed) p t (drop read s), length-drop read s, w.within)
+
+    pub puts-rest : printed + r.printed ≤ length start
+    puts-rest = fits_on told-rest whole_left
+
+    pub ends-rest : Matches q (step_result (read + r.read) (printed + r.printed) r.bad) t' start left 0 (played (length start) p₀ t₀ s)
+    ends-rest = ends told-rest whole_left refl
 
   -- there is no room for the lines of one more
-  pub fills : (p : Session) (t out : List ℕ) (read printed : ℕ) → Went p t out read printed → length start - printed < record_room → Matches (step_result p read printed false) t start out 0 (played (length start) p₀ t₀ s)
-  fills p t out read printed w h =
+  pub fills : length start - printed < record_room → Matches p (step_result read printed false) t start out 0 (played (length start) p₀ t₀ s)
+  fills h =
       rw (w.total, play-full (length start - printed) p t (drop read s) h)
       (record {
         session = refl;

@@ -1,18 +1,17 @@
--- What records leave that are worked on the lent arrays of a device that runs.
-use Rattle.std.specs.Prelude.{◌≡◌, true}
-use Rattle.rules.specs.declared.State.{State}
+-- What a device that runs keeps from record to record.
+use Rattle.std.specs.Prelude.{◌≡◌, ℕ, ◌≤◌, true}
+use Rattle.rules.specs.declared.Settings.{Settings}
+use Rattle.rules.specs.Sizes.{top_address}
+use Rattle.rules.specs.Configuration.{window_last}
 use Rattle.rules.specs.State.{Device, Lengths}
 use Rattle.rules.specs.Sound.{sound}
-use Rattle.journal_session.specs.declared.session.StepResult.{StepResult}
-use Rattle.journal_session.specs.Steps.{running}
-use Rattle.journal_session.specs.Matching.{step_result}
-use Rattle.journal_run.specs.declared.calls.RunStep.{RunStep}
 
--- state and table are sound, and the arrays have their lengths
+-- the last addresses of the windows are numbers of 64 bits
+abbrev pub Wide : Settings → Type 0
+Wide s = (i : ℕ) → window_last s i ≤ top_address
+
+-- state and table are sound, and the numbers and arrays are of their types
 pub record Ready (d : Device) : Type 0 where
   pub on : sound d ≡ true
   pub shape : Lengths d.state
-
--- the result of records that left this state
-abbrev pub ran_to : State → RunStep → StepResult
-ran_to s r = step_result (running s) r.read r.printed r.bad
+  pub wide : Wide d.state.settings

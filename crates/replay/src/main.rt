@@ -1,9 +1,7 @@
 // Replays a journal from standard input and prints its lines: reads, lets `crates/journal_blocks` advance, writes.
 #![tactic(auto)]
 
-ghost use Rattle.std.specs.Prelude.{◌≡◌, ◌≤◌, length, take};
-
-use journal_blocks::Progress;
+use journal_blocks::{Progress, advance, beginning};
 use rules::sizes::TABLE_WORDS;
 use std::io;
 use std::io::{Read, Write};
@@ -12,23 +10,9 @@ use std::rt::{Stdin, Stdout};
 // How many bytes of the journal, and of its lines, a round holds.
 const BLOCK_SIZE: usize = 65536;
 
-// Where the loop stands: how far the journal has come, and whether it stops there.
-#[derive(Drop)]
-struct Round {
-    progress: Progress,
-    done: bool,
-}
-
-// A number of bytes, at most all of a buffer's.
-fn within(n: usize, buffer: &[u8]) -> usize
-    ensures { (result ≤ length buffer.now) × (result ≡ length (take result buffer.now)) }
-{
-    if n < buffer.len() { n } else { buffer.len() }
-}
-
-// Prints a buffer's first n bytes.
+// Prints a buffer's first n bytes, at most all of them.
 fn print(mut to: Stdout, out: &[u8], n: usize) -> io::Result<()> {
-    let k = within(n, out);
+    let k = n.min(out.len());
     to.write_all(&out[..k])
 }
 
@@ -43,33 +27,20 @@ fn read_more(mut from: Stdin, wants: bool, block: &mut [u8], held: usize) -> io:
     from.read(&mut block[held..])
 }
 
-// Advances, and writes what that put. Where lines can't be written, none may follow.
-fn work(
-    to: Stdout,
-    p: Progress,
-    table: &mut [u64],
-    block: &mut [u8],
-    out: &mut [u8],
-    got: usize,
-) -> io::Result<Round> {
-    let x = journal_blocks::advance(p, table, block, out, got);
-    print(to, out, x.printed)?;
-    let done = x.finished;
-    let progress = x.progress;
-    Ok(Round { progress, done })
-}
-
-// One round: reads where bytes are wanted, and works. Where reading fails, nothing is printed.
+// One round: reads where bytes are wanted, advances, and writes what that put. Says whether it was the last. Where reading fails,
+// nothing is printed; where lines can't be written, none may follow.
 fn go_on(
     from: Stdin,
     to: Stdout,
-    p: Progress,
+    p: &mut Progress,
     table: &mut [u64],
     block: &mut [u8],
     out: &mut [u8],
-) -> io::Result<Round> {
+) -> io::Result<bool> {
     let got = read_more(from, p.wants, block, p.held)?;
-    work(to, p, table, block, out, got)
+    let x = advance(p, table, block, out, got);
+    print(to, out, x.printed)?;
+    Ok(x.finished)
 }
 
 // Works the journal to its end. A proved loop has to end, so it counts to a number that no journal uses up.
@@ -80,15 +51,11 @@ fn replay_all(
     block: &mut [u8],
     out: &mut [u8],
 ) -> io::Result<()> {
-    let mut at = Round {
-        progress: journal_blocks::beginning(),
-        done: false,
-    };
+    let mut p = beginning();
     for _ in 0..u64::MAX {
-        if at.done {
+        if go_on(from, to, &mut p, table, block, out)? {
             break;
         }
-        at = go_on(from, to, at.progress, table, block, out)?;
     }
     Ok(())
 }

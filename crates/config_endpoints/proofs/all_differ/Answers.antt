@@ -1,11 +1,7 @@
 use native.Mathlib.Omega.{arith}
-use borrow.Author.Rules.{rules}
-use Prim.Native.Nat.{◌≤◌, ◌-◌}
-use mathlib.Core.Path.{◌≡◌, refl, sym, ◌∙◌}
-use mathlib.Core.Bool.{not, ◌&&◌}
+use mathlib.Core.Path.{refl, sym, ◌∙◌}
+use mathlib.Core.Bool.{not}
 use lib.Dec.{eqb}
-use lib.ListN.{length, take, drop}
-use Rattle.laws.specs.Lists.{pairwise}
 use Rattle.config_endpoints.proofs.Rounds.{pairs-round, pairs-left}
 use Rattle.config_endpoints.proofs.all_differ.Goals as goal
 

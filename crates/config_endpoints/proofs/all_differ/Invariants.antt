@@ -1,14 +1,11 @@
 -- ok, and what is still to be looked at, decide together.
 use Rattle.config_endpoints.proofs.all_differ.Given as goal
-use native.Mathlib.Omega.{arith}
-use borrow.Author.Rules.{rules}
 use Prim.Native.Nat.{◌≤◌, ◌-◌}
-use mathlib.Core.Path.{◌≡◌, refl, sym, ◌∙◌}
+use mathlib.Core.Path.{◌≡◌}
 use mathlib.Core.Bool.{not, ◌&&◌}
 use lib.Dec.{eqb}
 use lib.ListN.{length, take, drop}
 use Rattle.laws.specs.Lists.{pairwise}
-use Rattle.config_endpoints.proofs.Rounds.{pairs-round, pairs-left}
 
 abbrev pub invariant-loop-i : goal.invariant-loop-i
 invariant-loop-i l =

@@ -1,4 +1,3 @@
-use borrow.Author.Rules.{rules}
 use borrow.Author.Tests.{lt-leb, le-leb, eq-eqb, ne_eqb}
 use mathlib.Core.Path.{◌≡◌, refl}
 use mathlib.Core.Bool.{not, and-true}
@@ -17,9 +16,9 @@ returns-then-a-b c =
     rw (
       length-take a.n a.endpoints.now,
       length-take a.n a.owners.now,
-      ← c.least-a.ensures,
-      ← c.least-b.ensures,
-      ne_eqb c.least-a.result c.least-b.result c.if-a-b.true,
+      ← c.min-a.ensures,
+      ← c.min-b.ensures,
+      ne_eqb c.min-a.result c.min-b.result c.if-a-b.true,
     )
 
 pub returns-then-a-gt-MAX_ENDPOINTS : goal.returns-then-a-gt-MAX_ENDPOINTS
@@ -29,10 +28,10 @@ returns-then-a-gt-MAX_ENDPOINTS c =
     rw (
       length-take a.n a.endpoints.now,
       length-take a.n a.owners.now,
-      ← c.least-a.ensures,
-      ← c.least-b.ensures,
-      eq-eqb c.least-a.result c.least-b.result c.if-a-b.false,
-      lt-leb c.least-a.result max_endpoints c.if-a-gt-MAX_ENDPOINTS.true,
+      ← c.min-a.ensures,
+      ← c.min-b.ensures,
+      eq-eqb c.min-a.result c.min-b.result c.if-a-b.false,
+      lt-leb c.min-a.result max_endpoints c.if-a-gt-MAX_ENDPOINTS.true,
     )
 
 pub returns : goal.returns
@@ -41,9 +40,9 @@ returns c =
     let a = c.args in
     let E = a.endpoints.now in
     let O = a.owners.now in
-    let m = c.least-a.result in
-    let p : take m E ≡ take a.n E = rw c.least-a.ensures (take-least a.n (length E) E refl) in
-    let q : take m O ≡ take a.n O = rw (c.if-a-b.false, c.least-b.ensures) (take-least a.n (length O) O refl) in
+    let m = c.min-a.result in
+    let p : take m E ≡ take a.n E = rw c.min-a.ensures (take-least a.n (length E) E refl) in
+    let q : take m O ≡ take a.n O = rw (c.if-a-b.false, c.min-b.ensures) (take-least a.n (length O) O refl) in
     rw (
       c.distinct.ensures,
       c.owners_below.ensures,
@@ -51,9 +50,9 @@ returns c =
       q,
       length-take a.n E,
       length-take a.n O,
-      ← c.least-a.ensures,
-      ← c.least-b.ensures,
-      eq-eqb m c.least-b.result c.if-a-b.false,
+      ← c.min-a.ensures,
+      ← c.min-b.ensures,
+      eq-eqb m c.min-b.result c.if-a-b.false,
       le-leb m max_endpoints c.if-a-gt-MAX_ENDPOINTS.false,
       and-true (pairwise (λ x y. not (eqb x y)) (take a.n E)),
     )

@@ -1,21 +1,25 @@
-use Prim.Native.Nat.{ℕ, ◌*◌}
-use mathlib.Core.Path.{sym}
-use borrow.Author.Rules.{rules}
-use lib.ListN.{replicate}
-use lib.Seq.{length-take-le}
+use Prim.Native.Nat.{ℕ, ◌*◌, ◌≤◌}
+use mathlib.Core.Path.{◌≡◌, refl, ap, ◌∙◌}
+use mathlib.Core.Bool.{true}
+use mathlib.Core.List.{List}
+use native.Mathlib.Omega.{arith}
+use lib.ListN.{length, replicate, length-replicate}
 use Rattle.rules.specs.Sizes.{max_faults, fault_size}
+use Rattle.journal_line_fetch.specs.Lines.{fetch_room, fetch_fits, fetch_lines}
 use Rattle.journal_step.proofs.Counting.{few_bytes, take-zeros}
+use Rattle.journal_step.proofs.Calling.{matches-call}
+use Rattle.journal_run.proofs.Calling.{fetch-fits, handed}
 use Rattle.journal_run.proofs.calls.work_fetch.Goals as goal
 
-pub fetch_into-requires : goal.fetch_into-requires
-fetch_into-requires c =
-    let h = few_bytes c.requires.0 in
-    (rw (length-take-le {A = ℕ} (fault_size * c.args.n) (replicate (fault_size * max_faults) 0) h) h, c.requires.1)
-
 pub returns : goal.returns
-returns c s t =
-    rw (take-zeros (fault_size * c.args.n) (fault_size * max_faults) (few_bytes c.requires.0)) at (c.fetch_into.ensures s t)
-
-pub slice_bounds-fetch_into-end : goal.slice_bounds-fetch_into-end
-slice_bounds-fetch_into-end c =
-    sym (length-take-le _ _ (few_bytes c.requires.0))
+returns c =
+    let a = c.args in
+    let f = c.fetch_faults-answer in
+    let zeros : List ℕ = replicate (fault_size * a.n) 0 in
+    let h = few_bytes c.requires.0 in
+    let z = take-zeros (fault_size * a.n) (fault_size * max_faults) h in
+    let e = rw z at f.ensures in
+    let l : length f.new.buffer ≡ length zeros = f.auto.buffer ∙ ap length z in
+    let few : length zeros ≤ fault_size * max_faults = omega (arith, length-replicate {A = ℕ}) in
+    let fits : fetch_fits f.result f.new.buffer ≡ true = fetch-fits a.s.now.settings.guests a.s.now a.g zeros f.result f.new.buffer f.new.s e l few in
+    matches-call fetch_room a.b.now (λ r. fetch_lines r.answer r.buffer) c.requires.1 refl (handed a.t.now e) (rw fits at c.put_fetch-k.ensures) (rw c.size_of.ensures at c.consumed.ensures)

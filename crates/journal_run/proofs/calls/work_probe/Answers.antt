@@ -1,14 +1,10 @@
-use Prim.Native.Nat.{ℕ}
+use mathlib.Core.Path.{refl}
 use native.Mathlib.Omega.{arith}
-use borrow.Author.Rules.{rules}
 use Rattle.journal_line_probe.specs.Lines.{probe_room, probe_lines}
-use Rattle.rules.specs.declared.State.{State}
-use Rattle.state_fields.specs.Fields.{with_settings, with_endpoints, with_regions}
-use Rattle.journal_run.proofs.Calling.{tells-ran}
+use Rattle.journal_step.proofs.Calling.{matches-call}
 use Rattle.journal_run.proofs.calls.work_probe.Goals as goal
 
 pub returns : goal.returns
-returns c s =
-    let a = c.args in
-    let on : ℕ → State = λ n. with_regions a.regions.now (with_settings a.settings (with_endpoints a.listed a.endpoints.now a.owners.now c.serve-x.new.attached c.serve-x.new.domains n s)) in
-    tells-ran probe_room a.b.now (λ r. probe_lines r.answer r.buffer) on (omega (arith, c.requires.1)) (rw c.size_of-n.ensures at (c.serve-x.ensures s)) c.put_probe-k.ensures c.consumed.ensures
+returns c =
+    matches-call probe_room c.args.b.now (λ r. probe_lines r.answer r.buffer) (omega (arith, c.requires.1)) refl (rw c.size_of-n.ensures at c.serve-answer.ensures)
+    c.put_probe-k.ensures (rw c.size_of-n.ensures at c.consumed.ensures)
