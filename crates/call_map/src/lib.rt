@@ -18,6 +18,7 @@ use rules::{Domain, Guest, Mapping, State};
 const GUEST_PLACES: u8 = MAX_GUESTS as u8;
 
 // Refuses a MAP for a guest, a domain and a record that fails one of its steps, with the status of the first that fails.
+#[tactic(auto, unfolding(refinement::specs::Flat::map_status, refinement::specs::Flat::domain_exists, rules::specs::Handlers::form_steps, rules::specs::State::config_of, rules::specs::Guests::own))]
 fn check_map(s: &State, t: &[u64], g: Guest, d: Domain, r: Mapping) -> Result<(), Failure>
     requires { g.0 < max_guests }
     ensures { outcome_status result ≡ map_status (device s.now t.now) g d r }
@@ -41,6 +42,7 @@ fn check_map(s: &State, t: &[u64], g: Guest, d: Domain, r: Mapping) -> Result<()
 
 // MAP for a guest: the record goes into the table where every step passes. It is a device error where the guest has no
 // place or one record more can't be counted, which a sound state rules out.
+#[tactic(auto, unfolding(refinement::specs::Flat::handle_map, refinement::specs::Flat::map_counted, refinement::specs::Flat::inserted))]
 pub fn handle_map(
     s: &mut State,
     t: &mut [u64],

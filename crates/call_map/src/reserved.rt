@@ -6,6 +6,7 @@ use rules::sizes::MAX_ENDPOINTS;
 use rules::{Domain, Guest, Mapping, State};
 
 // Whether the record overlaps a region of an endpoint of the guest that is attached to the domain.
+#[tactic(auto, unfolding(state_endpoints::specs::Search::any_below))]
 pub(crate) fn on_regions(s: &State, g: Guest, d: Domain, r: Mapping) -> bool
     ensures { result ≡ flat.on_regions s.now g d r }
 {

@@ -1,16 +1,20 @@
--- What one turn shows of a word of the reserved regions, and the words of all places.
-use Prim.Native.Nat.{ℕ, ◌+◌, ◌-◌, ◌/◌, ◌%◌, ◌≤◌, ◌<◌}
-use mathlib.Core.Path.{◌≡◌, refl, ap}
+-- What one test shows of a word of the reserved regions, and the words of all places.
+use Prim.Native.Nat.{ℕ, zero, suc, ◌+◌, ◌-◌, ◌/◌, ◌%◌, ◌≤◌, ◌<◌}
+use mathlib.Core.Path.{◌≡◌, refl, sym, ap, subst, ◌∙◌}
 use mathlib.Core.Bool.{Bool, true, false, cond, ◌&&◌}
 use mathlib.Core.List.{List}
+use mathlib.Core.Logic.{◌≢◌}
 use native.Mathlib.Omega.{arith}
-use lib.Dec.{ltb}
+use lib.Dec.{ltb, eqb}
 use lib.ListN.{length, get_or, get_or-eq_default}
-use borrow.Author.Tests.{lt-ltb, le-ltb}
-use Rattle.rules.specs.Sizes.{region_words, endpoint_region_words, region_places}
+use borrow.Author.Tests.{lt-ltb, le-ltb, eqb-true, eqb-false}
+use Rattle.rules.specs.Sizes.{region_words, endpoint_region_words}
 use Rattle.rules.specs.Configuration.{region_count, used_words, region_used}
-use Rattle.rules.specs.State.{trimmed_regions}
-use Rattle.state_fields.proofs.Rewriting.{Written, written_all}
+use Rattle.std.specs.Array.{IsFromFnResult, IsFromFnResultFrom}
+use Rattle.std.specs.Fn.{Called}
+use denote.Param.Members.{Mut}
+use Rattle.laws.specs.Lists.{tab}
+use Rattle.laws.proofs.Tables.{tab-is}
 use Rattle.call_setup.specs.Kept.{kept_word}
 
 zero-or-zero : (b : Bool) → ◌≡◌ {A = ℕ} 0 (cond b 0 0)
@@ -45,7 +49,17 @@ module _ (n : ℕ) (w : List ℕ) (k : ℕ) where
       let m : k % endpoint_region_words < used_words w (k / endpoint_region_words) = omega (arith, h, count_at) in
       rw (lt-ltb (k / endpoint_region_words) n l, lt-ltb (k % endpoint_region_words) (used_words w (k / endpoint_region_words)) m)
 
--- all places are written
-pub placed-all : (n : ℕ) (w d : List ℕ) (k : ℕ) (out : List ℕ) → length d ≡ region_places → region_places ≤ k → Written (kept_word n w) d k out → out ≡ trimmed_regions n w
-unfolding trimmed_regions
-placed-all n w d k out e h = written_all (kept_word n w) d region_places k out e h
+-- a list made by calls, which give q of each place
+module _ {F : Type 0} (g : Mut F (ℕ × Unit {0}) ℕ) (f : F) (q : ℕ → ℕ) (turn : (i y : ℕ) (h : F) → Called g f (i, tt) y h → (h ≡ f) × (y ≡ q i)) (ys : List ℕ) where
+  called : (i n : ℕ) (p : F) → p ≡ f → IsFromFnResultFrom g p ys i n → (k : ℕ) → i ≤ k → k < i + n → get_or ys k 0 ≡ q k
+  called i zero p e c k a b = omega (arith, a, b)
+  called i (suc n) p e c k a b =
+      let now : (c.0 ≡ f) × (c.1 ≡ q i) = turn i c.1 c.0 (subst (λ h. Called g h (i, tt) c.1 c.0) e c.3) in
+      go (eqb i k) refl (c.2.1 0 ∙ now.1) (λ j. called (i + 1) n c.0 now.0 c.4 k (omega (arith, j)) (omega arith))
+    where
+      go : (t : Bool) → eqb i k ≡ t → get_or ys i 0 ≡ q i → (i ≢ k → get_or ys k 0 ≡ q k) → get_or ys k 0 ≡ q k
+      go true t here later = rw (eqb-true i k t) at here
+      go false t here later = later (eqb-false i k t)
+
+  pub made : (n : ℕ) → IsFromFnResult g f ys n → ys ≡ tab n q
+  made n r = sym (tab-is n q ys 0 r.long (λ k h. sym (called 0 n f refl r.each k (omega arith) (omega arith))))

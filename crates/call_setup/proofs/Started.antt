@@ -1,16 +1,16 @@
--- What set-up shows at its returns, and one turn of each loop that fills the start state's arrays.
-use Prim.Native.Nat.{ℕ, zero, suc, ◌+◌, ◌/◌, ◌%◌, ◌≤◌, ◌<◌}
+-- What set-up shows at its returns, and what the start state's arrays are filled with.
+use Prim.Native.Nat.{ℕ, zero, suc, ◌+◌, ◌-◌, ◌/◌, ◌%◌, ◌≤◌, ◌<◌, min}
 use mathlib.Core.Path.{◌≡◌, refl, sym, ap, ◌∙◌}
 use mathlib.Core.Bool.{Bool, true, false, cond, not, ◌&&◌}
-use mathlib.Core.List.{List}
+use mathlib.Core.List.{List, ◌++◌}
 use mathlib.Core.Option.{none}
 use native.Mathlib.Omega.{arith}
 use lib.Dec.{ltb}
-use lib.ListN.{length, get_or, set, take, replicate}
-use lib.Seq.{take-length}
-use borrow.Author.Tests.{lt-ltb, le-ltb, eq-eqb, ne_eqb}
+use lib.ListN.{length, get_or, take, drop, replicate, length-replicate, length-append, length-drop, get_or-append, get_or-eq_default}
+use lib.Seq.{take-length, length-take-le, get_or-take, get_or-append_right, get_or-drop}
+use borrow.Author.Tests.{lt-ltb, le-ltb, ltb-true, ltb-false, eq-eqb, ne_eqb}
 use Rattle.laws.specs.Lists.{tab, pad}
-use Rattle.laws.proofs.Tables.{length-tab, get_d-tab, replicate-is}
+use Rattle.laws.proofs.Tables.{length-tab, get_d-tab, tab-is, replicate-is}
 use Rattle.rules.specs.declared.Settings.{Settings}
 use Rattle.rules.specs.declared.State.{State}
 use Rattle.rules.specs.declared.Answer.TheVariants.{Done, Refused}
@@ -19,29 +19,14 @@ use Rattle.rules.specs.Sizes.{max_guests, max_endpoints, max_faults, fault_place
 use Rattle.rules.specs.Configuration.{good_settings, good_lists, good_regions, good}
 use Rattle.rules.specs.State.{Attachment, Log, no_fault, no_log, flag_of, number_of, trimmed, trimmed_regions, state_of, start, zero_state}
 use Rattle.rules.specs.Device.{set_up}
-use Rattle.state_fields.proofs.Rewriting.{Written, written-store, written_all}
 use Rattle.refinement.specs.Flat.{device}
 use Rattle.refinement.specs.Setting.{configured}
 
--- LOOPS
+-- THE PLACES
 
 -- of an array with a place for each guest, what stands at place g with n guests in use
 abbrev pub kept_of : ℕ → List ℕ → ℕ → ℕ
 kept_of n l g = cond (ltb g n) (get_or l g 0) 0
-
--- of such an array, the places from n to i are set to zero
-abbrev pub Kept : ℕ → List ℕ → ℕ → List ℕ → Type 0
-Kept n l i out = Written (kept_of n l) l i out
-
-pub kept-start : (n : ℕ) (l : List ℕ) → Kept n l n l
-kept-start n l = record { long = refl; done = λ j h. rw (lt-ltb j n h); old = λ j h. refl }
-
-module _ (n : ℕ) {l : List ℕ} {i : ℕ} {out : List ℕ} (w : Kept n l i out) where
-  pub kept-zero : n ≤ i → i < length l → Kept n l (i + 1) (set out i 0)
-  kept-zero e h = written-store (kept_of n l) l i out 0 w h (rw (le-ltb i n e))
-
-  pub kept-all : length l ≡ max_guests → max_guests ≤ i → out ≡ tab max_guests (kept_of n l)
-  kept-all e h = written_all (kept_of n l) l max_guests i out e h w
 
 -- what a list of one value holds, at every place
 all_same : {A : Type 0} (n : ℕ) (z : A) (i : ℕ) → get_or (replicate n z) i z ≡ z
@@ -49,16 +34,55 @@ all_same zero z i = refl
 all_same (suc n) z zero = refl
 all_same (suc n) z (suc i) = all_same n z i
 
--- of places for endpoints that held d, those below i hold what stands there in a list, zero where the list has ended
-abbrev pub Padded : List ℕ → List ℕ → ℕ → List ℕ → Type 0
-Padded l d i out = Written (λ j. get_or l j 0) d i out
+-- where all places from the first unused one on are set to zero
+pub unused-zero : (g k : ℕ) (l z e : List ℕ) → length l ≡ max_guests → k ≡ min g max_guests → z ≡ replicate (length l - k) 0 → e ≡ drop (length l - k) (drop k l) → take k l ++ (z ++ e) ≡ tab max_guests (kept_of g l)
+unused-zero g k l z e long u f d = sym (tab-is max_guests (kept_of g l) _ 0 whole (λ i h. at i h (ltb i k) refl))
+  where
+    front : length (take k l) ≡ k
+    front = length-take-le k l (omega (arith, long, u))
 
-module _ (l d : List ℕ) (e : length d ≡ max_endpoints) {i : ℕ} {out : List ℕ} (w : Padded l d i out) where
-  pub pad-one : (v : ℕ) → i < max_endpoints → v ≡ get_or l i 0 → Padded l d (i + 1) (set out i v)
-  pad-one v h = written-store (λ j. get_or l j 0) d i out v w (omega (arith, e))
+    zeros-long : length z ≡ length l - k
+    zeros-long = rw f (length-replicate (length l - k) 0)
 
-  pub pad-all : max_endpoints ≤ i → out ≡ pad max_endpoints 0 l
-  pad-all h = written_all (λ j. get_or l j 0) d max_endpoints i out e h w
+    none-left : length e ≡ 0
+    none-left = rw (d, length-drop (length l - k) (drop k l), length-drop k l) (omega arith)
+
+    whole : length (take k l ++ (z ++ e)) ≡ max_guests
+    whole = rw (length-append (take k l) (z ++ e), length-append z e, front, zeros-long, none-left) (omega (arith, long, u))
+
+    at : (i : ℕ) → i < max_guests → (b : Bool) → ltb i k ≡ b → kept_of g l i ≡ get_or (take k l ++ (z ++ e)) i 0
+    at i h true t =
+        let j : i < k = omega (arith, ltb-true i k t) in
+        rw (lt-ltb i g (omega (arith, u))) (sym (get_or-append (take k l) (z ++ e) 0 i (rw front j) ∙ get_or-take k l i 0 j))
+    at i h false t =
+        let j : k ≤ i = omega (arith, ltb-false i k t) in
+        let zero-there : get_or (take k l ++ (z ++ e)) i 0 ≡ 0 =
+        get_or-append_right (take k l) (z ++ e) i 0 (rw front j)
+        ∙ get_or-append z e 0 (i - length (take k l)) (rw (front, zeros-long) (omega (arith, long)))
+        ∙ rw f (all_same (length l - k) 0 (i - length (take k l))) in
+        rw (le-ltb i g (omega (arith, u))) (sym zero-there)
+
+-- a list at the first of the places, and zero after it
+pub zero-after : (n k : ℕ) (xs ys : List ℕ) → k ≡ min (length xs) n → ys ≡ take k xs → ys ++ drop k (replicate n 0) ≡ pad n 0 xs
+zero-after n k xs ys u f = sym (tab-is n (λ i. get_or xs i 0) _ 0 whole (λ i h. at i h (ltb i k) refl))
+  where
+    front : length ys ≡ k
+    front = rw f (length-take-le k xs (omega (arith, u)))
+
+    whole : length (ys ++ drop k (replicate n 0)) ≡ n
+    whole = rw (length-append ys (drop k (replicate n 0)), front, length-drop {A = ℕ} k (replicate n 0), length-replicate {A = ℕ} n 0) (omega (arith, u))
+
+    at : (i : ℕ) → i < n → (b : Bool) → ltb i k ≡ b → get_or xs i 0 ≡ get_or (ys ++ drop k (replicate n 0)) i 0
+    at i h true t =
+        let j : i < k = omega (arith, ltb-true i k t) in
+        sym (get_or-append ys (drop k (replicate n 0)) 0 i (rw front j) ∙ rw f (get_or-take k xs i 0 j))
+    at i h false t =
+        let j : k ≤ i = omega (arith, ltb-false i k t) in
+        let zero-there : get_or (ys ++ drop k (replicate n 0)) i 0 ≡ 0 =
+        get_or-append_right ys (drop k (replicate n 0)) i 0 (rw front j)
+        ∙ get_or-drop {A = ℕ} k (replicate n 0) (i - length ys) 0
+        ∙ all_same {A = ℕ} n 0 (k + (i - length ys)) in
+        get_or-eq_default xs 0 (omega (arith, u)) ∙ sym zero-there
 
 -- THE START STATE
 

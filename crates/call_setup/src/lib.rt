@@ -3,7 +3,7 @@
 
 mod placing;
 
-ghost use Rattle.std.specs.Prelude.{◌≡◌, length};
+ghost use Rattle.std.specs.Prelude.{◌≡◌};
 ghost use Rattle.laws.specs.Lists.{pad};
 ghost use Rattle.rules.specs.Sizes.{max_endpoints};
 ghost use Rattle.rules.specs.Configuration.{good};
@@ -50,43 +50,32 @@ pub fn zero_state() -> State
 fn trim(s: Settings) -> Settings
     ensures { result ≡ trimmed s }
 {
-    let mut shares = s.shares;
-    let mut firsts = s.firsts;
-    let mut lasts = s.lasts;
-    for i in s.guests..MAX_GUESTS {
-        shares[i] = 0;
-        firsts[i] = 0;
-        lasts[i] = 0;
-    }
-    let mut next = s;
-    next.shares = shares;
-    next.firsts = firsts;
-    next.lasts = lasts;
-    next
+    let used = s.guests.min(MAX_GUESTS);
+    let mut kept = s;
+    kept.shares[used..].fill(0);
+    kept.firsts[used..].fill(0);
+    kept.lasts[used..].fill(0);
+    kept
 }
 
-// The places hold the endpoints and their owners, and zero after the last endpoint and the last owner.
-fn place_lists(
-    endpoints: &[u32],
-    owners: &[u8],
-    numbers: &mut [u32; MAX_ENDPOINTS],
-    holders: &mut [u8; MAX_ENDPOINTS],
-)
-    requires { (length numbers.old ≡ max_endpoints) × (length holders.old ≡ max_endpoints) }
-    ensures { (numbers.new ≡ pad max_endpoints 0 endpoints.now) × (holders.new ≡ pad max_endpoints 0 owners.now) }
+// The endpoints at their places, and zero after the last.
+fn placed_endpoints(endpoints: &[u32]) -> [u32; MAX_ENDPOINTS]
+    ensures { result ≡ pad max_endpoints 0 endpoints.now }
 {
-    for i in 0..MAX_ENDPOINTS {
-        let mut number = 0;
-        let mut holder = 0;
-        if i < endpoints.len() {
-            number = endpoints[i];
-        }
-        if i < owners.len() {
-            holder = owners[i];
-        }
-        numbers[i] = number;
-        holders[i] = holder;
-    }
+    let n = endpoints.len().min(MAX_ENDPOINTS);
+    let mut places = [0; MAX_ENDPOINTS];
+    places[..n].copy_from_slice(&endpoints[..n]);
+    places
+}
+
+// The owners at their places, and zero after the last.
+fn placed_owners(owners: &[u8]) -> [u8; MAX_ENDPOINTS]
+    ensures { result ≡ pad max_endpoints 0 owners.now }
+{
+    let n = owners.len().min(MAX_ENDPOINTS);
+    let mut places = [0; MAX_ENDPOINTS];
+    places[..n].copy_from_slice(&owners[..n]);
+    places
 }
 
 // Whether the configuration is good.
@@ -126,9 +115,8 @@ pub fn set_up(
         };
     }
     table_remove::clear(t);
-    let mut numbers: [u32; MAX_ENDPOINTS] = [0; MAX_ENDPOINTS];
-    let mut holders: [u8; MAX_ENDPOINTS] = [0; MAX_ENDPOINTS];
-    place_lists(endpoints, owners, &mut numbers, &mut holders);
+    let numbers = placed_endpoints(endpoints);
+    let holders = placed_owners(owners);
     let reserved = placed_regions(endpoints.len(), regions);
     let kept = trim(settings);
     CallResult {

@@ -4,6 +4,7 @@ ghost use Rattle.rules.specs.State.{trimmed_regions};
 ghost use Rattle.call_setup.specs.Kept.{kept_word};
 
 use rules::sizes::{ENDPOINT_REGION_WORDS, REGION_PLACES, REGION_WORDS};
+use std::array;
 
 // Word k of the regions of n endpoints: zero where it is not in use.
 fn kept_word(n: usize, words: &[u64], k: usize) -> u64
@@ -28,9 +29,5 @@ fn kept_word(n: usize, words: &[u64], k: usize) -> u64
 pub fn placed_regions(n: usize, words: &[u64]) -> [u64; REGION_PLACES]
     ensures { result ≡ trimmed_regions n words.now }
 {
-    let mut places: [u64; REGION_PLACES] = [0; REGION_PLACES];
-    for k in 0..REGION_PLACES {
-        places[k] = kept_word(n, words, k);
-    }
-    places
+    array::from_fn(|k| kept_word(n, words, k))
 }

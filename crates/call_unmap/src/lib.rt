@@ -12,6 +12,7 @@ use table_record::key_of;
 
 // Refuses an UNMAP for a guest, a domain and the addresses from a to b that fails one of its steps, with the status of the
 // first that fails.
+#[tactic(auto, unfolding(refinement::specs::Flat::unmap_status, refinement::specs::Flat::domain_exists))]
 fn check_unmap(
     s: &State,
     t: &[u64],
@@ -39,6 +40,7 @@ fn check_unmap(
 }
 
 // UNMAP for a guest: the domain's records inside the addresses from a to b go where every step passes.
+#[tactic(auto, unfolding(refinement::specs::Flat::handle_unmap, refinement::specs::Flat::removed))]
 pub fn handle_unmap(
     s: &mut State,
     t: &mut [u64],

@@ -29,6 +29,7 @@ pub(crate) fn put_records(out: &mut [u8], at: usize, count: usize, buffer: &[u8]
     ensures { (result ≡ at + length (record_lines count buffer.now)) × (out.new ≡ placed at (record_lines count buffer.now) out.old) }
 {
     let mut next = at;
+    // By place: a record of the buffer begins where its place says.
     for i in 0..count {
         let start = FAULT_SIZE * i;
         let end = start + FAULT_SIZE;

@@ -26,6 +26,7 @@ pub fn play(p: &mut Session, t: &mut [u64], s: &[u8], out: &mut [u8]) -> StepRes
 {
     let mut read: usize = 0;
     let mut printed: usize = 0;
+    // As long as there is room: how far a record goes shows when it is worked.
     while out.len() - printed >= RECORD_ROOM {
         if is_running(p, t) {
             let x = run(&mut p.state, t, &s[read..], &mut out[printed..]);

@@ -18,6 +18,7 @@ pub(crate) fn run(s: &mut State, t: &mut [u64], b: &[u8], out: &mut [u8]) -> Ste
 {
     let mut read: usize = 0;
     let mut printed: usize = 0;
+    // As long as there is room: how far a record goes shows when it is worked.
     while out.len() - printed >= RECORD_ROOM {
         let x = work_record(s, t, &b[read..], out, printed);
         read += x.read;

@@ -23,6 +23,7 @@ pub(crate) fn decimal_text(x: u64, end: u8) -> Decimal
     let mut bytes = [end; DECIMAL_ROOM];
     let mut n = x;
     let mut i: usize = 19;
+    // From the last place on: how many digits there are shows at the end.
     while 10 <= n {
         bytes[i] = digit((n % 10) as u8);
         n /= 10;

@@ -39,6 +39,7 @@ fn in_window(first: u64, last: u64, phys: u64, start: u64, end: u64) -> bool
 }
 
 // Refuses a record that fails one of steps 2 to 6 of MAP, with the status of the first that fails.
+#[tactic(auto, unfolding(rules::specs::Handlers::form_steps, rules::specs::Handlers::outside))]
 pub fn check_form(limits: &Limits, r: Mapping) -> Result<(), Failure>
     ensures { outcome_status result ≡ status_of (form_steps (limits_of limits.now) r) }
 {
@@ -61,6 +62,7 @@ pub fn check_form(limits: &Limits, r: Mapping) -> Result<(), Failure>
 }
 
 // Whether steps 2 to 6 of MAP pass.
+#[tactic(auto, unfolding(crate::specs::Forms::form_good, rules::specs::Handlers::form_steps))]
 pub(crate) fn form_good(limits: &Limits, r: Mapping) -> bool
     ensures { result ≡ form_good limits.now r }
 {

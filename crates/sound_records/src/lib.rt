@@ -30,6 +30,7 @@ fn placed_good(s: &State, t: &[u64]) -> bool
     let mut counts: [usize; MAX_GUESTS] = [0; MAX_GUESTS];
     let mut key: u64 = 0;
     let mut i: usize = 0;
+    // By place: where the records of one domain end, those of the next begin.
     while i < live {
         let r = table_record::get(t, i);
         let g = (r.key / DOMAIN_SPAN) as usize;
@@ -44,8 +45,7 @@ fn placed_good(s: &State, t: &[u64]) -> bool
             return false;
         }
         let next = run_end(t, i + 1, live, &limits, r.key, r.end);
-        let count = counts[g];
-        counts[g] = count + (next - i);
+        counts[g] += next - i;
         key = r.key;
         i = next;
     }

@@ -1,3 +1,2 @@
-mod Rest
 mod None
 pub mod Cleared

@@ -12,6 +12,7 @@ use table_reserved::regions_met;
 
 // Whether the endpoint at place i is not attached, or no record of its domain overlaps one of its regions. One without regions
 // is not searched for.
+#[tactic(auto, unfolding(table_reserved::specs::Reserved::regions_met, state_regions::specs::Held::held_regions, laws::specs::Lists::tab_from))]
 fn endpoint_clear(s: &State, t: &[u64], i: usize) -> bool
     requires { i < max_endpoints }
     ensures { result ≡ endpoint_clear (take s.now.live (records t.now)) s.now i }

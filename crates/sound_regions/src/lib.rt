@@ -15,6 +15,7 @@ use unused::unused_zero;
 
 // Whether unused region places are zero and no record overlaps a region of an endpoint in its domain; false where there are no
 // places for as many endpoints. Where every word is zero, no endpoint has a region.
+#[tactic(auto, unfolding(crate::specs::Clear::regions_good))]
 pub fn regions_good(s: &State, t: &[u64]) -> bool
     ensures { result ≡ regions_good s.now t.now }
 {

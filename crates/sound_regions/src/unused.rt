@@ -13,6 +13,7 @@ use sound_zeros::zero_from;
 const MOST: u64 = MAX_REGIONS as u64;
 
 // Whether the words for the endpoint at place i past those of its regions are zero: none are past more regions than it may have.
+#[tactic(auto, unfolding(rules::specs::Sound::zero_from))]
 fn rest_zero(regions: &[u64], i: usize) -> bool
     requires { (i < max_endpoints) × (length regions.now ≡ region_places) }
     ensures { result ≡ zero_from (used_words regions.now i) (endpoint_regions regions.now i) }

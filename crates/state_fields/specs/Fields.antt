@@ -46,11 +46,3 @@ with_faults r f e a s = record s { reasons = r; flags = f; sources = e; addresse
 -- the logs of all guests: the counts and the fault records
 abbrev pub with_logs : List ℕ → List ℕ → List ℕ → List ℕ → List ℕ → List ℕ → State → State
 with_logs n l r f e a s = with_counts n l (with_faults r f e a s)
-
--- the endpoints, with their attachments, and how many records are live
-abbrev pub with_endpoints : ℕ → List ℕ → List ℕ → List ℕ → List ℕ → ℕ → State → State
-with_endpoints n es os a d live s = with_lists n es os (with_attached a d (with_live live s))
-
--- which endpoints, by their owners, are attached to which domains, and how many records are live
-abbrev pub with_domains : List ℕ → List ℕ → List ℕ → ℕ → State → State
-with_domains os a d live s = with_endpoints s.listed s.endpoints os a d live s

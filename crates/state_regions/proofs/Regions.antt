@@ -1,7 +1,7 @@
 -- Laws of the regions that words hold for an endpoint.
 use Prim.Native.Nat.{ℕ, ◌+◌, ◌≤◌, ◌<◌, min}
-use mathlib.Core.Path.{◌≡◌, refl, sym, ap, ◌∙◌}
-use mathlib.Core.Bool.{Bool, false, ◌||◌, or_assoc, or-false}
+use mathlib.Core.Path.{◌≡◌, sym, ap, ◌∙◌}
+use mathlib.Core.Bool.{Bool, ◌||◌, or_assoc, or-false}
 use mathlib.Core.List.{List}
 use native.Mathlib.Omega.{arith}
 use lib.ListN.{length, drop, drop_of_length-le, get_or-eq_default}
@@ -40,9 +40,6 @@ pub record Asked (q : Region → Bool) (w : List ℕ) (i : ℕ) (met : Bool) (j 
   pub left : any? q (held_regions w i) ≡ (met || any? q (drop j (held_regions w i)))
 
 module _ (q : Region → Bool) (w : List ℕ) (i : ℕ) where
-  pub asked-none : Asked q w i false 0
-  asked-none = record { within = omega arith; left = refl }
-
   -- one region more
   pub asked-next : (met b : Bool) (j : ℕ) → Asked q w i met j → j < held_count w i → b ≡ q (held_region w i j) → Asked q w i (met || b) (j + 1)
   asked-next met b j a h e =

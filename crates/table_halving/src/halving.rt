@@ -47,6 +47,7 @@ pub(crate) fn last_place(t: &[u64], live: usize, key: u64, address: u64) -> Plac
     let mut word = 0;
     let mut n = bounded(t, live);
     let mut reads = 0;
+    // By hand: the library's searches go over the elements of a slice, and a record is five words.
     while n > 1 {
         let step = half(n);
         let middle = word + RECORD_WORDS * step;

@@ -29,6 +29,7 @@ pub fn last_up_to(t: &[u64], live: usize, key: u64, address: u64) -> usize
 {
     let mut a = 0;
     let mut n = bounded(t, live);
+    // By hand: the library's searches go over the elements of a slice, and a record is five words.
     while n > 1 {
         let half = n / 2;
         let middle = a + half;

@@ -1,4 +1,3 @@
-use borrow.Author.Rules.{rules}
 use Rattle.call_setup.proofs.Started.{good-differ, good-all}
 use Rattle.call_setup.proofs.is_good.Goals as goal
 

@@ -1,4 +1,3 @@
-use borrow.Author.Rules.{rules}
 use mathlib.Core.Path.{ap}
 use mathlib.Core.Bool.{not}
 use Rattle.call_setup.proofs.Started.{start-fields, set-up-length, set-up-bad, set-up-done}
@@ -20,10 +19,11 @@ pub returns : goal.returns
 returns c =
     let m = c.trim-kept in
     let q = c.placed_regions-reserved in
-    let p = c.place_lists in
+    let e = c.placed_endpoints-numbers in
+    let o = c.placed_owners-holders in
     let x = c.is_good in
     let a = c.args in
     set-up-done a.settings a.endpoints.now a.owners.now a.regions.now a.t.now c.if-t-ne-TABLE_WORDS.false x.result x.ensures
     _ c.clear.new.t (ap not c.if-not-is_good.false) c.clear.ensures
-    (start-fields a.settings a.endpoints.now a.owners.now a.regions.now c.zero_state-2.result m.result _ _ q.result
-    c.zero_state-2.ensures m.ensures p.ensures.0 p.ensures.1 q.ensures)
+    (start-fields a.settings a.endpoints.now a.owners.now a.regions.now c.zero_state-2.result m.result e.result o.result q.result
+    c.zero_state-2.ensures m.ensures e.ensures o.ensures q.ensures)

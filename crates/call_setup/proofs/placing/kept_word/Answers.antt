@@ -1,5 +1,4 @@
 use native.Mathlib.Omega.{arith}
-use borrow.Author.Rules.{rules}
 use Rattle.call_setup.proofs.Placed.{past_words, past-endpoints, past-use, in_use}
 use Rattle.call_setup.proofs.placing.kept_word.Goals as goal
 
