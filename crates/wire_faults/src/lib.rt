@@ -7,6 +7,7 @@ ghost use Rattle.rules.specs.Access.{fault_bytes};
 
 use rules::Fault;
 use rules::sizes::FAULT_SIZE;
+use wire_numbers::copying::copy_in;
 use wire_numbers::placing::put_field;
 
 // Each byte of a fault record that no field takes.
@@ -32,6 +33,6 @@ pub fn put_fault(out: &mut [u8], f: Fault)
     ensures { out.new ≡ cond (leb fault_size (length out.old)) (fault_bytes f ++ drop fault_size out.old) out.old }
 {
     if FAULT_SIZE <= out.len() {
-        out[..FAULT_SIZE].copy_from_slice(&fault_bytes(f));
+        copy_in(out, &fault_bytes(f));
     }
 }

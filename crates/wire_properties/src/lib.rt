@@ -7,6 +7,7 @@ ghost use Rattle.wire_properties.specs.Properties.{property_put};
 
 use rules::Region;
 use rules::sizes::PROPERTY_SIZE;
+use wire_numbers::copying::copy_in;
 use wire_numbers::placing::put_field;
 
 // A property's type: a reserved region.
@@ -33,6 +34,6 @@ pub fn put_property(out: &mut [u8], q: Region)
     ensures { out.new ≡ cond (eqb (length out.old) property_size) (property_put q) out.old }
 {
     if out.len() == PROPERTY_SIZE {
-        out.copy_from_slice(&property_bytes(q));
+        copy_in(out, &property_bytes(q));
     }
 }
