@@ -1,20 +1,23 @@
 -- Laws of a log whose oldest faults go.
 use Prim.Native.Nat.{ℕ, ◌+◌, ◌*◌, ◌-◌, ◌/◌, ◌%◌, ◌≤◌, ◌<◌, min}
 use mathlib.Core.Path.{◌≡◌, refl, sym, ap, ◌∙◌}
-use mathlib.Core.Bool.{Bool, true, false, cond}
+use mathlib.Core.Bool.{Bool, true, false, cond, ◌||◌}
 use mathlib.Core.List.{List, ◌++◌}
 use mathlib.Core.Logic.{◌≢◌}
+use native.Mathlib.Nat.{sub-zero}
 use native.Mathlib.Omega.{arith}
-use lib.Dec.{ltb}
-use lib.ListN.{length, get_or, take, drop, replicate, length-drop, get_or-append}
-use lib.Seq.{length-take-le}
+use lib.Dec.{ltb, leb, eqb}
+use lib.ListN.{length, get_or, set, take, drop, replicate, length-drop, get_or-append}
+use lib.Seq.{length-take-le, set-get_or}
 use borrow.Rule.Slice.PartMut.{mid_of, post_of, put_mid, mid_len, same_len_mid, Post-is}
-use borrow.Author.Tests.{ltb-true, ltb-false, eq-eqb, ne_eqb}
+use borrow.Author.Tests.{ltb-true, ltb-false, eqb-true, lt-ltb, lt-leb, eq-eqb, ne_eqb}
 use Rattle.std.proofs.lemmas.List.{length-replicate, length-append, get_or-take, get_or-drop, get_or-replicate, get_or-append_right}
 use Rattle.laws.proofs.Tables.{tab-is}
-use Rattle.rules.specs.Sizes.{max_faults}
+use Rattle.rules.specs.Sizes.{max_guests, max_faults}
 use Rattle.rules.specs.declared.Guest.{Guest}
-use Rattle.state_log.specs.Dropped.{shifted, shifted_all}
+use Rattle.rules.specs.declared.State.{State}
+use Rattle.state_fields.specs.Fields.{with_counts, with_faults}
+use Rattle.state_log.specs.Dropped.{shifted, shifted_all, drop_faults}
 
 -- what stands at another guest's place stays
 shifted-other : (g : Guest) (k : ℕ) (l : List ℕ) (i : ℕ) → i / max_faults ≢ g.0 → shifted g k l i ≡ get_or l i 0
@@ -110,3 +113,34 @@ module _ (g : Guest) (k : ℕ) (l ys : List ℕ) (room : max_faults * g.0 + max_
         at_place i true c t u = before i (ltb-true i start t)
         at_place i false true t u = inside i (ltb-false i start t) (ltb-true i past u)
         at_place i false false t u = after i (ltb-false i past u)
+
+-- the same where the places end at `p`, which the code may write in another way
+pub shifted-up : (g : Guest) (k : ℕ) (l ys : List ℕ) (p : ℕ) → ys ≡ drop k (mid_of (max_faults * g.0) (p - max_faults * g.0) l) ++ replicate (min k (length (mid_of (max_faults * g.0) (p - max_faults * g.0) l))) 0 → max_faults * g.0 + max_faults ≤ length l → p ≡ max_faults * g.0 + max_faults → put_mid (max_faults * g.0) (p - max_faults * g.0) l ys ≡ shifted_all g k l
+shifted-up g k l ys p e room at = rw at (shifted-places g k l ys room (rw at at e))
+
+-- where there is no such guest, or none of its faults are to go, nothing changes
+module _ (s : State) (g : Guest) (k : ℕ) (none : (leb max_guests g.0 || eqb k 0) ≡ true) where
+  none-go : g.0 < max_guests → k ≡ 0
+  none-go h = eqb-true k 0 (rw (lt-leb max_guests g.0 h) at none)
+
+  none-shifted : k ≡ 0 → (l : List ℕ) → shifted_all g k l ≡ l
+  unfolding shifted
+  none-shifted z l = tab-is (length l) (shifted g k l) l 0 refl (λ i j. go i (eqb (i / max_faults) g.0))
+    where
+      go : (i : ℕ) (b : Bool) → cond b (cond (ltb (i % max_faults + k) max_faults) (get_or l (i + k) 0) 0) (get_or l i 0) ≡ get_or l i 0
+      go i false = refl
+      go i true = rw (lt-ltb (i % max_faults + k) max_faults (omega (arith, z))) (ap (λ m. get_or l m 0) (omega (arith, z)))
+
+  none-counted : k ≡ 0 → (l : List ℕ) → set l g.0 (get_or l g.0 0 - k) ≡ l
+  none-counted z l = rw (z, sub-zero) (set-get_or l g.0 0)
+
+  pub none_dropped : s ≡ drop_faults s g k
+  unfolding drop_faults
+  none_dropped = go (ltb g.0 max_guests) refl
+    where
+      go : (b : Bool) → ltb g.0 max_guests ≡ b
+          → s ≡ cond b (with_counts (set s.logged g.0 (get_or s.logged g.0 0 - k)) s.lost (with_faults (shifted_all g k s.reasons) (shifted_all g k s.flags) (shifted_all g k s.sources) (shifted_all g k s.addresses) s)) s
+      go true t =
+          let z = none-go (ltb-true g.0 max_guests t) in
+          rw (none-counted z s.logged, none-shifted z s.reasons, none-shifted z s.flags, none-shifted z s.sources, none-shifted z s.addresses)
+      go false t = refl

@@ -14,6 +14,10 @@ pub fn drop_faults(s: &mut State, g: Guest, k: usize)
     if guest >= MAX_GUESTS {
         return;
     }
+    if k == 0 {
+        // Nothing goes: the four arrays need not be walked.
+        return;
+    }
     s.logged[guest] = s.logged[guest].saturating_sub(k);
     let first = MAX_FAULTS * guest;
     let end = first + MAX_FAULTS;

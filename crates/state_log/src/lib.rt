@@ -36,8 +36,8 @@ pub fn log_fault(s: &mut State, g: Guest, f: Fault)
 }
 
 // A guest's lost count, 0 for a guest number that there is not.
-pub fn lost_of(s: &State, g: Guest) -> u32
-    ensures { result ≡ get_or s.now.lost g.0 0 }
+pub fn lost_of(lost: [u32; MAX_GUESTS], g: Guest) -> u32
+    ensures { result ≡ get_or lost g.0 0 }
 {
-    s.lost.get(g.0 as usize).copied().unwrap_or(0)
+    lost.get(g.0 as usize).copied().unwrap_or(0)
 }

@@ -19,7 +19,8 @@ pub extern "C" fn viommu_held(s: State, t: &[u64], g: Guest) -> usize
 pub extern "C" fn viommu_lost(s: State, g: Guest) -> u32
     ensures { result ≡ get_or s.lost g.0 0 }
 {
-    state_log::lost_of(&s, g)
+    let lost = s.lost;
+    state_log::lost_of(lost, g)
 }
 
 // The number of bytes that a request of this type has in its readable part, to be asked before a buffer is gathered.
