@@ -19,8 +19,12 @@ pub record Written (f : ℕ → ℕ) (l : List ℕ) (i : ℕ) (out : List ℕ) :
   pub old : (j : ℕ) → i ≤ j → get_or out j 0 ≡ get_or l j 0
 
 module _ (f : ℕ → ℕ) (l : List ℕ) where
+  -- a loop may begin at the first place that changes
+  pub written_from : (i : ℕ) → ((j : ℕ) → j < i → get_or l j 0 ≡ f j) → Written f l i l
+  written_from i same = record { long = refl; done = same; old = λ j h. refl }
+
   pub written_none : Written f l 0 l
-  written_none = record { long = refl; done = below_none (λ j. get_or l j 0 ≡ f j); old = λ j h. refl }
+  written_none = written_from 0 (below_none (λ j. get_or l j 0 ≡ f j))
 
   -- one more place, stored or left as it is
   pub written-store : (i : ℕ) (out : List ℕ) (v : ℕ) → Written f l i out → i < length l → v ≡ f i → Written f l (i + 1) (set out i v)
