@@ -13,6 +13,7 @@ pub fn has_room(len: usize, at: usize, room: usize) -> bool
 }
 
 // The bytes put at a place of the buffer where it has room for them; the place after what is put is given back.
+#[tactic(auto, unfolding(crate::specs::Placing::written, crate::specs::Placing::written_count, crate::specs::Placing::placed))]
 pub fn put_bytes(out: &mut [u8], at: usize, bytes: &[u8]) -> usize
     ensures { (result ≡ at + written_count (length bytes.now) at bytes.now out.old) × (out.new ≡ written (length bytes.now) at bytes.now out.old) }
 {

@@ -1,3 +1,6 @@
+use Prim.Native.Nat.{min}
+use borrow.Author.Rules.{rules}
+use Rattle.rules.specs.Sizes.{max_endpoints}
 use mathlib.Core.Path.{◌≡◌, sym, ap, ◌∙◌}
 use lib.ListN.{set}
 use Rattle.rules.specs.declared.State.{State}
@@ -34,4 +37,5 @@ returns c =
     let a = c.args in
     let v = c.loop-i.invariant in
     let t = zero-last n.result a.g a.s.now.owners c.loop-i.i c.loop-i-test.false in
-    v.rest ∙ rw (t _ _ v.flags, t _ _ v.domains, n.ensures)
+    let e : n.result ≡ min a.s.now.listed max_endpoints = search rules in
+    v.rest ∙ rw (t _ _ v.flags, t _ _ v.domains, e)
