@@ -26,7 +26,7 @@
  *   - Nobody else writes to what is lent while the call runs, a guest neither: gather a request out of guest memory first.
  *   - Calls on one table do not run at the same time. Calls on different tables may.
  *   - VIOMMU_STACK_BYTES of stack are free, 20 KiB: the state crosses by value and is copied once on the way. (tests/c/stack.c
- *     measures every kind of call, with full and with empty tables and logs, and refusals; the most is 15,464 bytes, of which
+ *     measures every kind of call, with full and with empty tables and logs, and refusals; the most is 15,616 bytes, of which
  *     the caller's argument and result are 9,848.)
  *
  * The archive is code for x86-64 Linux by the System V ABI. It uses the SSE registers and the red zone below the stack
